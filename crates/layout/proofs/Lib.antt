@@ -1,0 +1,3 @@
+pub mod ColumnsExact
+pub mod LinesExact
+pub mod TextsExact

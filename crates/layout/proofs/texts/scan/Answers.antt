@@ -1,0 +1,45 @@
+use borrow.Author.Needs.{needs}
+use native.Mathlib.Omega.{arith}
+use native.Mathlib.Numerals.{add-one}
+use mathlib.Core.Path.{_≡_, refl, sym, _∙_, ap, subst}
+use mathlib.Core.Bool.{false}
+use Prim.Native.Nat.{ℕ, suc, _+_, _-_, _*_, _/_, _<_}
+use lib.ListN.{length, take, drop, length-set}
+use Rattle.std.specs.declared.result.Result.the-variants.{Ok, Err}
+use Rattle.std.proofs.shelf.Lists.{take-more-set}
+use Rattle.std.proofs.shelf.Ways.{tells}
+use Rattle.heap.specs.Faults.{plain}
+use Rattle.layout.specs.Lines.{numbersIn}
+use Rattle.layout.specs.Texts.{badLength, behind, firstLines, linesOf}
+use Rattle.layout.proofs.TextsExact.{one-line, broken-line, good-length, part-is}
+use Rattle.layout.proofs.texts.scan.Needs as need
+
+pub returns-in-rest : need.returns-in-rest
+returns-in-rest c =
+    let t = c .args .text .now in
+    let k = c .loop-k .k in
+    let g : badLength (length t) ≡ false = grind (arith, tells) in
+    good-length t g
+    ∙ (broken-line t (length t / 29) k (take k (c .loop-k .lines)) (c .loop-k .inv .1)
+        (sym (ap numbersIn (part-is t k)) ∙ (sym (c .parse .ensures) ∙ c .in-rest .is)) (c .loop-k-test .taken)
+    ∙ ap Err (rw add-one at (sym (c .at-in-rest .ensures))))
+
+pub loop-k-again : need.loop-k-again
+loop-k-again c =
+    let t = c .args .text .now in
+    let k = c .loop-k .k in
+    let ls = c .loop-k .lines in
+    let n = c .in-Some .numbers in
+    let m : k < length ls = omega arith in
+    ( length-set ls k n ∙ c .loop-k .inv .0
+    , rw (take-more-set ls k n m, add-one) (one-line t k (take k ls) n (c .loop-k .inv .1)
+        (sym (ap numbersIn (part-is t k)) ∙ (sym (c .parse .ensures) ∙ c .in-Some .is)))
+    )
+
+pub returns-then-is-empty : need.returns-then-is-empty
+unfolding linesOf
+returns-then-is-empty c = search needs
+
+pub returns : need.returns
+unfolding linesOf
+returns c = search needs

@@ -1,0 +1,11 @@
+// The layout of a sheet's text: numbers in columns of four bytes, seven columns and byte 10 a line.
+mod columns;
+mod lines;
+mod texts;
+
+pub use columns::column;
+pub use lines::line;
+pub use lines::Numbers;
+pub use lines::Six;
+pub use texts::Scanned;
+pub use texts::scan;
