@@ -1,0 +1,6 @@
+pub mod Kinds
+pub mod Routines
+pub mod Written
+pub mod Flow
+pub mod Reading
+pub mod ModelDrafts

@@ -1,0 +1,7 @@
+// The sheet as a value, the table of line kinds, and the reader.
+mod building;
+mod drafting;
+mod drafts;
+mod kinds;
+mod rows;
+mod sheets;
