@@ -1,1 +1,5 @@
 pub mod Faults
+pub mod Heaps
+pub mod Lists
+pub mod Piles
+pub mod Segments
