@@ -4,12 +4,16 @@ use mathlib.Core.List.{List, [], _∷_, _++_, reverse}
 use Prim.Native.Nat.{ℕ, _+_, _-_, _<_, _≤_}
 use native.Mathlib.Omega.{arith}
 use lib.ListN.{length, getD, set, take}
-use Rattle.heap.specs.Piles.{contents}
+use Rattle.heap.specs.Piles.{contents, entries}
+use Rattle.heap.specs.declared.piles.Pile.{Pile}
 use Rattle.std.proofs.shelf.Lists.{take-more, take-more-set, take-set, length-take, length-reverse, reverse-append}
 
 -- there are as many entries as the pile counts
 pub length-contents : {A : Type 0} (n : ℕ) (slots : List A) → n ≤ length slots → length (contents n slots) ≡ n
 length-contents n slots p = length-reverse (take n slots) ∙ (length-take n slots ∙ (omega arith))
+
+pub length-entries : {A : Type 0} (p : Pile A) → length (entries p) ≡ p .len
+length-entries p = length-contents (p .len) (p .slots .now) (p .ok)
 
 -- an entry at the end of the slots is on top
 pub contents-push : {A : Type 0} (xs : List A) (x : A) → reverse (xs ++ x ∷ []) ≡ x ∷ reverse xs

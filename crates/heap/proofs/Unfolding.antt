@@ -1,7 +1,7 @@
 -- Proofs: what holds of every list segment.
 use mathlib.Core.Path.{_≡_, refl, sym, _∙_, subst}
 use mathlib.Core.Logic.{_≢_, _⊎_, inl, inr}
-use mathlib.Core.Bool.{true, false}
+use mathlib.Core.Bool.{Bool, true, false}
 use Prim.Native.Nat.{ℕ}
 use lib.Dec.{eqb}
 use Rattle.heap.specs.Heaps.{Heap, Empty, Split, IsCell, IsLseg, done, more}
@@ -38,9 +38,9 @@ folded h e f (inr w) = let s = w .1 in more (w .0) (s .3) (s .4) (s .5)
 pub unfolds : Unfolds
 unfolds h e f = (unfolded, folded h e f)
 
--- the same, by the test that a walk makes
-pub over-at-end : (h : Heap) (e f : ℕ) → eqb e f ≡ true → IsLseg h e f → Empty h
-over-at-end h e f t w = elim (unfolded w) [ inl p ↦ p .1 | inr p ↦ absurd (p .0 (eqb-true e f t)) ]
+-- the same, by the answer of the test that a walk makes
+pub over-at-end : (r : Bool) (e f : ℕ) → r ≡ eqb e f → r ≡ true → (h : Heap) → IsLseg h e f → Empty h
+over-at-end r e f is t h w = elim (unfolded w) [ inl p ↦ p .1 | inr p ↦ absurd (p .0 (eqb-true e f (sym is ∙ t))) ]
 
-pub starts-before-end : (h : Heap) (e f : ℕ) → eqb e f ≡ false → IsLseg h e f → Starts h e f
-starts-before-end h e f t w = elim (unfolded w) [ inl p ↦ absurd (eqb-false e f t (p .0)) | inr p ↦ p .1 ]
+pub starts-before-end : (r : Bool) (e f : ℕ) → r ≡ eqb e f → r ≡ false → (h : Heap) → IsLseg h e f → Starts h e f
+starts-before-end r e f is t h w = elim (unfolded w) [ inl p ↦ absurd (eqb-false e f (sym is ∙ t) (p .0)) | inr p ↦ p .1 ]

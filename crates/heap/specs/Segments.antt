@@ -3,7 +3,7 @@ use mathlib.Core.Path.{_≡_}
 use mathlib.Core.Logic.{_≢_, _⊎_}
 use Prim.Native.Nat.{ℕ}
 use Rattle.heap.specs.Heaps.{Heap, Empty, Split, IsCell, IsLseg}
-use Rattle.std.specs.declared.option.Option.the-variants.{Some, None}
+use Rattle.std.specs.declared.option.Option.the-variants.{None}
 
 -- the end of a segment is none of its cells
 abbrev pub End-is-no-cell : Type 0

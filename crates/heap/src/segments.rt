@@ -3,8 +3,7 @@ ghost use lib.Dec.{eqb};
 ghost use mathlib.Core.Bool.{true, false};
 ghost use mathlib.Core.Path.{_≡_};
 ghost use Rattle.heap.specs.Heaps.{Heap, Empty, IsLseg};
-ghost use Rattle.heap.specs.Segments.{Starts, Unfolds};
-ghost use Rattle.heap.specs.Segments.{End-is-no-cell, Nil-is-no-cell};
+ghost use Rattle.heap.specs.Segments.{End-is-no-cell, Nil-is-no-cell, Starts, Unfolds};
 
 // Whether a walk along a segment has come to its end: nothing of the segment is left exactly there.
 pub fn at_end(at: u32, end: u32) -> bool

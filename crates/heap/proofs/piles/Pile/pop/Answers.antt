@@ -1,3 +1,4 @@
+-- A pop hands out the last slot that counts, and counts it no more.
 use borrow.Author.Needs.{needs}
 use Rattle.heap.proofs.Contents.{contents-last}
 use Rattle.heap.proofs.piles.Pile.pop.Needs as need

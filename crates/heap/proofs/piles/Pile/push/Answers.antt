@@ -1,3 +1,4 @@
+-- A push stores the entry into the first slot that does not count, and counts it.
 use borrow.Author.Needs.{needs}
 use Rattle.heap.proofs.Contents.{contents-set}
 use Rattle.heap.proofs.piles.Pile.push.Needs as need
