@@ -1,1 +1,6 @@
+-- What the contracts cite.
 pub mod Faults
+pub mod Heaps
+pub mod Lists
+pub mod Piles
+pub mod Segments
