@@ -3,4 +3,6 @@ pub mod Routines
 pub mod Written
 pub mod Flow
 pub mod Reading
+pub mod Formed
+pub mod Laws
 pub mod ModelDrafts
