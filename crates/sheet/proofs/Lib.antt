@@ -1,2 +1,5 @@
 pub mod Checks
+pub mod Laying
+pub mod LayingLines
+pub mod Rooms
 pub mod Tables

@@ -9,7 +9,7 @@ use lib.ListN.{length, getD, drop}
 use Rattle.std.specs.declared.option.Option.{Option}
 use Rattle.std.specs.declared.option.Option.the-variants.{Some, None}
 use Rattle.sheet.specs.Kinds.{weightOf}
-use Rattle.sheet.specs.Routines.{Command, set, load, store, new, free, jump, branch, cut, call, done}
+use Rattle.sheet.specs.Routines.{Command, assign, load, store, new, free, jump, branch, cut, call, done}
 use Rattle.sheet.specs.Written.{commandKind}
 
 -- the row of a number, counted from 1
@@ -17,7 +17,7 @@ abbrev pub rowAt : List Command → ℕ → Command
 rowAt rows r = getD rows (r - 1) done
 
 abbrev pub isCut : Command → Bool
-isCut (set x e) = false
+isCut (assign x e) = false
 isCut (load x y) = false
 isCut (store x e) = false
 isCut (new x) = false
@@ -30,7 +30,7 @@ isCut done = false
 
 -- a piece opens behind the row
 abbrev pub opens : Command → Bool
-opens (set x e) = false
+opens (assign x e) = false
 opens (load x y) = false
 opens (store x e) = false
 opens (new x) = false
@@ -43,7 +43,7 @@ opens done = false
 
 -- a piece closes at the row
 abbrev pub closes : Command → Bool
-closes (set x e) = false
+closes (assign x e) = false
 closes (load x y) = false
 closes (store x e) = false
 closes (new x) = false
@@ -56,7 +56,7 @@ closes done = true
 
 -- the row may be the last one
 abbrev pub ends : Command → Bool
-ends (set x e) = false
+ends (assign x e) = false
 ends (load x y) = false
 ends (store x e) = false
 ends (new x) = false
@@ -72,7 +72,7 @@ abbrev pub strays : List Command → ℕ → ℕ → Bool
 strays rows i r = not (ltb i r || isCut (rowAt rows r))
 
 abbrev pub badTarget : List Command → ℕ → Command → Bool
-badTarget rows i (set x e) = false
+badTarget rows i (assign x e) = false
 badTarget rows i (load x y) = false
 badTarget rows i (store x e) = false
 badTarget rows i (new x) = false
@@ -89,7 +89,7 @@ misplaced rows i = badTarget rows i (rowAt rows i) || (eqb i (length rows) && no
 
 -- the row leads from row i to row j
 abbrev pub Leads : Command → ℕ → ℕ → Type 0
-Leads (set x e) i j = j ≡ suc i
+Leads (assign x e) i j = j ≡ suc i
 Leads (load x y) i j = j ≡ suc i
 Leads (store x e) i j = j ≡ suc i
 Leads (new x) i j = j ≡ suc i

@@ -8,7 +8,7 @@ use Rattle.std.specs.shelf.Lists.{All}
 use Rattle.heap.specs.declared.atoms.Atom.{Atom}
 use Rattle.sheet.specs.declared.kinds.Scope.{Scope}
 use Rattle.sheet.specs.Kinds.{classesOf, fits}
-use Rattle.sheet.specs.Routines.{Command, set, load, store, new, free, jump, branch, cut, call, done, Routine, listOf, total}
+use Rattle.sheet.specs.Routines.{Command, assign, load, store, new, free, jump, branch, cut, call, done, Routine, listOf, total}
 use Rattle.sheet.specs.Written.{atomKind, atomColumns, commandKind, commandColumns}
 use Rattle.sheet.specs.Flow.{misplaced, Heavy}
 
@@ -23,7 +23,7 @@ pub record ListFormed (s : Scope) (l : List Atom) : Type 0 where
 
 -- the variable that the list of a row may not name: the result of a call; 0 for none
 abbrev pub excepted : Command → ℕ
-excepted (set x e) = 0
+excepted (assign x e) = 0
 excepted (load x y) = 0
 excepted (store x e) = 0
 excepted (new x) = 0

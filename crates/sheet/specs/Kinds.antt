@@ -101,7 +101,7 @@ weightOf Done = 0
 abbrev pub entryOf : Kind → Entry
 entryOf k = record { code = codeOf k; kind = k; role = roleOf k; classes = classesOf k; weight = weightOf k }
 
-abbrev entries : List Kind → List Entry
+abbrev pub entries : List Kind → List Entry
 entries [] = []
 entries (k ∷ ks) = entryOf k ∷ entries ks
 

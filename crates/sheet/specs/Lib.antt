@@ -6,3 +6,4 @@ pub mod Reading
 pub mod Formed
 pub mod Laws
 pub mod ModelDrafts
+pub mod Laid

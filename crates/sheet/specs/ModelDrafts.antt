@@ -200,3 +200,14 @@ wrongDraft d e v =
 abbrev pub checkedBy : Option Problem → Six ℕ → Result (Six ℕ) Problem
 checkedBy None v = Ok v
 checkedBy (Some w) v = Err w
+
+abbrev pub takenUnless : Option Problem → Draft → Result Draft Problem
+takenUnless None d = Ok d
+takenUnless (Some w) d = Err w
+
+abbrev pub takenAs : Draft → Option Entry → Six ℕ → Result Draft Problem
+takenAs d None v = Err NotDue
+takenAs d (Some e) v = takenUnless (wrongDraft d e v) (added (e .role) d (e .kind) v)
+
+abbrev pub takenLine : Draft → Numbers → Result Draft Problem
+takenLine d l = takenAs d (entryFor (l .kind) table) (l .operands)

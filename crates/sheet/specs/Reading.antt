@@ -26,7 +26,7 @@ use Rattle.sheet.specs.declared.drafts.Stage.{Stage}
 use Rattle.sheet.specs.declared.drafts.Stage.the-variants.{Start, Headed, BeforeList, Rows}
 use Rattle.sheet.specs.declared.drafts.Open.{Open}
 use Rattle.sheet.specs.Kinds.{table, entryFor, fits}
-use Rattle.sheet.specs.Routines.{Command, set, load, store, new, free, jump, branch, cut, call, done, Routine, total}
+use Rattle.sheet.specs.Routines.{Command, assign, load, store, new, free, jump, branch, cut, call, done, Routine, total}
 use Rattle.sheet.specs.Flow.{opens, misplaced}
 
 -- what the lines so far say: the stage, the rows that the head promises, and the routine as far as it is known
@@ -51,7 +51,7 @@ openAs named except l = Some (record { named = named; except = except; count = l
 
 -- the list of a row among v variables: a cut may name them all, a frame all but the call's result
 abbrev pub openBehind : ℕ → Command → Option Open
-openBehind v (set x e) = None
+openBehind v (assign x e) = None
 openBehind v (load x y) = None
 openBehind v (store x e) = None
 openBehind v (new x) = None
@@ -180,7 +180,7 @@ commandFor Equal v = done
 commandFor Unequal v = done
 commandFor Cell v = done
 commandFor Segment v = done
-commandFor Set v = set (v .first) (v .second)
+commandFor Set v = assign (v .first) (v .second)
 commandFor Load v = load (v .first) (v .second)
 commandFor Store v = store (v .first) (v .second)
 commandFor New v = new (v .first)
@@ -193,7 +193,7 @@ commandFor Done v = done
 
 -- one atom more in the list of a row
 abbrev pub withAtom : Atom → Command → Command
-withAtom a (set x e) = set x e
+withAtom a (assign x e) = assign x e
 withAtom a (load x y) = load x y
 withAtom a (store x e) = store x e
 withAtom a (new x) = new x
@@ -218,6 +218,9 @@ withBefore R l = record { own = R .own; variables = R .variables; arguments = R 
 abbrev pub withAfter : Routine → List Atom → Routine
 withAfter R l = record { own = R .own; variables = R .variables; arguments = R .arguments; ghosts = R .ghosts; before = R .before; after = l; rows = R .rows }
 
+abbrev pub withHead : Routine → Six ℕ → Routine
+withHead R v = record { own = v .first; variables = v .second; arguments = v .third; ghosts = v .fourth; before = R .before; after = R .after; rows = R .rows }
+
 abbrev pub atomInRows : Routine → Atom → List Command → Routine
 atomInRows R a [] = withAfter R (R .after ++ a ∷ [])
 atomInRows R a (c ∷ cs) = withRows R (atLast (withAtom a) (c ∷ cs))
@@ -233,7 +236,7 @@ moved p s R = record { stage = s; promised = p .promised; routine = R }
 
 -- what a line adds
 abbrev pub nextBy : Role → Progress → Kind → Six ℕ → Progress
-nextBy role.Head p k v = record { stage = Headed; promised = v .fifth; routine = record { own = v .first; variables = v .second; arguments = v .third; ghosts = v .fourth; before = []; after = []; rows = [] } }
+nextBy role.Head p k v = record { stage = Headed; promised = v .fifth; routine = withHead (p .routine) v }
 nextBy role.Before p k v = moved p BeforeList (p .routine)
 nextBy role.After p k v = moved p Rows (p .routine)
 nextBy role.Atom p k v = moved p (p .stage) (atomInto (p .stage) (p .routine) (atomFor k v))
@@ -278,7 +281,7 @@ abbrev pub ahead : ℕ → List ℕ → ℕ → ℕ
 ahead i ws r = cond (ltb i r) (getD ws (r - suc i) 0) 0
 
 abbrev pub weighs : Command → ℕ → List ℕ → ℕ
-weighs (set x e) i ws = getD ws 0 0
+weighs (assign x e) i ws = getD ws 0 0
 weighs (load x y) i ws = 1 + getD ws 0 0
 weighs (store x e) i ws = 1 + getD ws 0 0
 weighs (new x) i ws = 1 + getD ws 0 0

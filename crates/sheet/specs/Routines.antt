@@ -6,7 +6,7 @@ use Rattle.heap.specs.declared.atoms.Atom.{Atom}
 
 -- what a row does; names are numbers, rows count from 1
 pub data Command : Type 0 where
-  set : (into from : ℕ) → Command
+  assign : (into from : ℕ) → Command
   load : (into cell : ℕ) → Command
   store : (cell link : ℕ) → Command
   new : (into : ℕ) → Command
@@ -28,7 +28,7 @@ pub record Routine : Type 0 where
 
 -- the list that stands behind a row
 abbrev pub listOf : Command → List Atom
-listOf (set x e) = []
+listOf (assign x e) = []
 listOf (load x y) = []
 listOf (store x e) = []
 listOf (new x) = []

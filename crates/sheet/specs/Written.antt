@@ -11,7 +11,7 @@ use Rattle.layout.specs.Lines.{written}
 use Rattle.sheet.specs.declared.kinds.Kind.{Kind}
 use Rattle.sheet.specs.declared.kinds.Kind.the-variants.{Head, Before, After, Equal, Unequal, Cell, Segment, Set, Load, Store, New, Free, Jump, Branch, Cut, Call, Done}
 use Rattle.sheet.specs.Kinds.{codeOf}
-use Rattle.sheet.specs.Routines.{Command, set, load, store, new, free, jump, branch, cut, call, done, Routine, listOf}
+use Rattle.sheet.specs.Routines.{Command, assign, load, store, new, free, jump, branch, cut, call, done, Routine, listOf}
 
 abbrev pub six : ℕ → ℕ → ℕ → ℕ → ℕ → ℕ → Six ℕ
 six a b c d e f = record { first = a; second = b; third = c; fourth = d; fifth = e; sixth = f }
@@ -36,7 +36,7 @@ abbrev pub atomLine : Atom → Numbers
 atomLine a = lineAs (atomKind a) (atomColumns a)
 
 abbrev pub commandKind : Command → Kind
-commandKind (set x e) = Set
+commandKind (assign x e) = Set
 commandKind (load x y) = Load
 commandKind (store x e) = Store
 commandKind (new x) = New
@@ -48,7 +48,7 @@ commandKind (call x q y z s t l) = Call
 commandKind done = Done
 
 abbrev pub commandColumns : Command → Six ℕ
-commandColumns (set x e) = six x e 0 0 0 0
+commandColumns (assign x e) = six x e 0 0 0 0
 commandColumns (load x y) = six x y 0 0 0 0
 commandColumns (store x e) = six x e 0 0 0 0
 commandColumns (new x) = six x 0 0 0 0 0

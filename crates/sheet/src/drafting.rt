@@ -2,8 +2,10 @@
 ghost use mathlib.Core.Path.{_≡_};
 ghost use mathlib.Core.Bool.{true, false};
 ghost use Prim.Native.Nat.{ℕ, _≤_, _<_};
+ghost use Rattle.std.specs.Results.{Cases};
+ghost use Rattle.std.specs.declared.result.Result.the-variants.{Ok, Err};
 ghost use Rattle.sheet.specs.Reading.{full};
-ghost use Rattle.sheet.specs.ModelDrafts.{openBody, openDraft, dueDraft, scopeDraft, scopeLine, overfullDraft, atomBody, atomStage, withRow, headed, added, atomAdded, roomFor, wrongDraft, checkedBy, shortBehind, lastRow};
+ghost use Rattle.sheet.specs.ModelDrafts.{openBody, openDraft, dueDraft, scopeDraft, scopeLine, overfullDraft, atomBody, atomStage, withRow, headed, added, atomAdded, roomFor, wrongDraft, checkedBy, takenLine};
 use crate::building::atom_for;
 use crate::building::open_row;
 use crate::building::push;
@@ -16,6 +18,7 @@ use crate::kinds::Entry;
 use crate::kinds::Kind;
 use crate::kinds::Role;
 use crate::kinds::Scope;
+use crate::kinds::entry_for;
 use crate::kinds::operands;
 use crate::rows::Row;
 use crate::sheets::Body;
@@ -177,5 +180,19 @@ impl Draft {
             Role::Atom => self.add_atom(atom_for(kind, columns)),
             Role::Row => self.body.add_row(row_for(kind, columns)),
         }
+    }
+
+    // Takes one line, or says what is wrong with it and leaves the draft as it was.
+    pub(crate) fn take(&mut self, line: &Numbers) -> Result<(), Problem>
+        requires count { ⌜ now self .body .count ≤ 40 ⌝ }
+        requires promised { ⌜ now self .promised ≤ 40 ⌝ }
+        ensures { λ r. ⌜ Cases r (λ _. takenLine (now (self .entry)) (now (line .entry)) ≡ Ok (now (self .exit))) (λ w. (takenLine (now (self .entry)) (now (line .entry)) ≡ Err w) × (now (self .exit) ≡ now (self .entry))) ⌝ }
+    {
+        let Some(entry) = entry_for(line.kind) else {
+            return Err(Problem::NotDue);
+        };
+        let columns = self.checked(&entry, &line.operands)?;
+        self.add(entry.role, entry.kind, &columns);
+        Ok(())
     }
 }
