@@ -49,7 +49,7 @@ pub returns : need.returns
 returns c =
     let t = c .args .text .now in
     let g : badLength (length t) ≡ false = grind (arith, tells) in
-    let k : c .loop-k .k ≡ length t / 29 = omega arith in
+    let k : c .loop-k .k ≡ length t / 29 = grind (arith, tells) in
     let f : firstLines (length t / 29) t ≡ Ok (take (length t / 29) (c .loop-k .lines)) = subst (λ n. firstLines n t ≡ Ok (take n (c .loop-k .lines))) k (c .loop-k .inv .1) in
     let d = good-length t g ∙ f in
     record { defined = (omega arith, c .loop-k .inv .0, d); written = texts-written t _ d }
