@@ -1,9 +1,9 @@
 -- A text is read exactly if it is lines written one after another, and else the first fault in it is named.
 use mathlib.Core.Path.{_≡_, refl, sym, _∙_, ap, subst}
 use mathlib.Core.List.{List, [], _∷_, _++_}
-use mathlib.Core.Bool.{Bool, true, false, cond}
+use mathlib.Core.Bool.{false}
 use mathlib.Core.Logic.{_⊎_, inl, inr}
-use Prim.Native.Nat.{ℕ, zero, suc, _+_, _-_, _*_, _/_, _%_, _≤_, _<_}
+use Prim.Native.Nat.{ℕ, zero, suc, _+_, _*_, _/_, _≤_, _<_}
 use native.Mathlib.Omega.{arith}
 use lib.ListN.{length, take, drop, getD}
 use lib.Seq.{take-suc}
@@ -19,8 +19,8 @@ use Rattle.heap.specs.Faults.{Report, plain}
 use Rattle.layout.specs.declared.lines.Numbers.{Numbers}
 use Rattle.layout.specs.Columns.{columnOf}
 use Rattle.layout.specs.Lines.{written, numbersIn, Short}
-use Rattle.layout.specs.Texts.{badLength, behind, oneMore, further, firstLines, linesOf}
-use Rattle.layout.specs.Laws.{TextOf, BadLength, BadLine, Refused, Texts-read, Texts-written, Texts-refused, Broken-line-is-none-written}
+use Rattle.layout.specs.Texts.{badLength, behind, oneMore, further, firstLines}
+use Rattle.layout.specs.Laws.{BadLine, Texts-read, Texts-written, Texts-refused, Broken-line-is-none-written}
 use Rattle.layout.proofs.ColumnsExact.{length-column, none-some}
 use Rattle.layout.proofs.LinesExact.{reads-written, written-reads}
 use Rattle.layout.proofs.TextsExact.{one-line, good-length, bad-length}

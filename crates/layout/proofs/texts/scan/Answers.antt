@@ -1,16 +1,16 @@
+-- What scan leaves to show: each way out by the definition of a text's lines, and by the laws over it.
 use borrow.Author.Needs.{needs}
 use native.Mathlib.Omega.{arith}
 use native.Mathlib.Numerals.{add-one}
-use mathlib.Core.Path.{_≡_, refl, sym, _∙_, ap, subst}
+use mathlib.Core.Path.{_≡_, sym, _∙_, ap, subst}
 use mathlib.Core.Bool.{true, false}
-use Prim.Native.Nat.{ℕ, suc, _+_, _-_, _*_, _/_, _<_}
-use lib.ListN.{length, take, drop, length-set}
+use Prim.Native.Nat.{_/_, _<_}
+use lib.ListN.{length, take, length-set}
 use Rattle.std.specs.declared.result.Result.the-variants.{Ok, Err}
 use Rattle.std.proofs.shelf.Lists.{take-more-set}
 use Rattle.std.proofs.shelf.Ways.{tells}
-use Rattle.heap.specs.Faults.{plain}
 use Rattle.layout.specs.Lines.{numbersIn}
-use Rattle.layout.specs.Texts.{badLength, behind, firstLines, linesOf}
+use Rattle.layout.specs.Texts.{badLength, firstLines}
 use Rattle.layout.proofs.TextsExact.{one-line, broken-line, good-length, bad-length, part-is}
 use Rattle.layout.proofs.TextsWritten.{texts-written, texts-refused}
 use Rattle.layout.proofs.texts.scan.Needs as need
