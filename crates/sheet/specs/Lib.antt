@@ -7,3 +7,4 @@ pub mod Formed
 pub mod Laws
 pub mod ModelDrafts
 pub mod Laid
+pub mod ModelReading

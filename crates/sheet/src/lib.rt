@@ -3,5 +3,6 @@ mod building;
 mod drafting;
 mod drafts;
 mod kinds;
+mod reading;
 mod rows;
 mod sheets;
