@@ -1,3 +1,4 @@
 pub mod ColumnsExact
 pub mod LinesExact
 pub mod TextsExact
+pub mod TextsWritten

@@ -1,3 +1,4 @@
 pub mod Columns
+pub mod Laws
 pub mod Lines
 pub mod Texts

@@ -5,6 +5,7 @@ ghost use lib.ListN.{length, take};
 ghost use Rattle.std.specs.Results.{Cases};
 ghost use Rattle.std.specs.declared.result.Result.the-variants.{Ok, Err};
 ghost use Rattle.heap.specs.Faults.{report};
+ghost use Rattle.layout.specs.Laws.{TextOf, Refused};
 ghost use Rattle.layout.specs.Texts.{linesOf};
 use crate::lines::LINE;
 use crate::lines::Numbers;
@@ -25,7 +26,8 @@ pub struct Scanned {
 
 // Reads every line of a text: 101 for its length, else 102 at the first line whose layout is broken.
 pub fn scan(text: &[u8]) -> Result<Scanned, Fault>
-    ensures { λ r. ⌜ Cases r (λ s. (s .count ≤ 123) × (length (s .lines) ≡ 123) × (linesOf (now (text .entry)) ≡ Ok (take (s .count) (s .lines)))) (λ f. linesOf (now (text .entry)) ≡ Err (report f)) ⌝ }
+    ensures defined { λ r. ⌜ Cases r (λ s. (s .count ≤ 123) × (length (s .lines) ≡ 123) × (linesOf (now (text .entry)) ≡ Ok (take (s .count) (s .lines)))) (λ f. linesOf (now (text .entry)) ≡ Err (report f)) ⌝ }
+    ensures written { λ r. ⌜ Cases r (λ s. TextOf (now (text .entry)) (take (s .count) (s .lines))) (λ f. Refused (now (text .entry)) (report f)) ⌝ }
 {
     if text.is_empty() || text.len() % LINE != 0 || text.len() > LINES * LINE {
         return Err(Fault::at(Problem::TextLength, 0));

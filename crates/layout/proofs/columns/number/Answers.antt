@@ -1,3 +1,4 @@
+-- Bytes that differ from how their value is written hold no number.
 use mathlib.Core.Path.{_≡_, sym, _∙_, ap}
 use Rattle.std.proofs.shelf.Tests.{both-ways}
 use Rattle.std.proofs.shelf.Equals.{matches-decides}

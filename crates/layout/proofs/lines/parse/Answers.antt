@@ -1,3 +1,4 @@
+-- Seven columns without byte 10 behind them are no line.
 use borrow.Author.Needs.{needs}
 use Rattle.layout.proofs.LinesExact.{numbers-absent}
 use Rattle.layout.proofs.lines.parse.Needs as need

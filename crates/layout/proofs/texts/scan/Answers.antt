@@ -1,17 +1,18 @@
+-- What scan leaves to show: each way out by the definition of a text's lines, and by the laws over it.
 use borrow.Author.Needs.{needs}
 use native.Mathlib.Omega.{arith}
 use native.Mathlib.Numerals.{add-one}
-use mathlib.Core.Path.{_≡_, refl, sym, _∙_, ap, subst}
-use mathlib.Core.Bool.{false}
-use Prim.Native.Nat.{ℕ, suc, _+_, _-_, _*_, _/_, _<_}
-use lib.ListN.{length, take, drop, length-set}
+use mathlib.Core.Path.{_≡_, sym, _∙_, ap, subst}
+use mathlib.Core.Bool.{true, false}
+use Prim.Native.Nat.{_/_, _<_}
+use lib.ListN.{length, take, length-set}
 use Rattle.std.specs.declared.result.Result.the-variants.{Ok, Err}
 use Rattle.std.proofs.shelf.Lists.{take-more-set}
 use Rattle.std.proofs.shelf.Ways.{tells}
-use Rattle.heap.specs.Faults.{plain}
 use Rattle.layout.specs.Lines.{numbersIn}
-use Rattle.layout.specs.Texts.{badLength, behind, firstLines, linesOf}
-use Rattle.layout.proofs.TextsExact.{one-line, broken-line, good-length, part-is}
+use Rattle.layout.specs.Texts.{badLength, firstLines}
+use Rattle.layout.proofs.TextsExact.{one-line, broken-line, good-length, bad-length, part-is}
+use Rattle.layout.proofs.TextsWritten.{texts-written, texts-refused}
 use Rattle.layout.proofs.texts.scan.Needs as need
 
 pub returns-in-rest : need.returns-in-rest
@@ -19,10 +20,11 @@ returns-in-rest c =
     let t = c .args .text .now in
     let k = c .loop-k .k in
     let g : badLength (length t) ≡ false = grind (arith, tells) in
-    good-length t g
-    ∙ (broken-line t (length t / 29) k (take k (c .loop-k .lines)) (c .loop-k .inv .1)
-        (sym (ap numbersIn (part-is t k)) ∙ (sym (c .parse .ensures) ∙ c .in-rest .is)) (c .loop-k-test .taken)
-    ∙ ap Err (rw add-one at (sym (c .at-in-rest .ensures))))
+    let d = good-length t g
+      ∙ (broken-line t (length t / 29) k (take k (c .loop-k .lines)) (c .loop-k .inv .1)
+          (sym (ap numbersIn (part-is t k)) ∙ (sym (c .parse .ensures) ∙ c .in-rest .is)) (c .loop-k-test .taken)
+      ∙ ap Err (rw add-one at (sym (c .at-in-rest .ensures)))) in
+    record { defined = d; written = texts-refused t _ d }
 
 pub loop-k-again : need.loop-k-again
 loop-k-again c =
@@ -37,9 +39,17 @@ loop-k-again c =
     )
 
 pub returns-then-is-empty : need.returns-then-is-empty
-unfolding linesOf
-returns-then-is-empty c = search needs
+returns-then-is-empty c =
+    let t = c .args .text .now in
+    let b : badLength (length t) ≡ true = search needs in
+    let d = bad-length t b ∙ ap Err (sym (c .at .ensures)) in
+    record { defined = d; written = texts-refused t _ d }
 
 pub returns : need.returns
-unfolding linesOf
-returns c = search needs
+returns c =
+    let t = c .args .text .now in
+    let g : badLength (length t) ≡ false = grind (arith, tells) in
+    let k : c .loop-k .k ≡ length t / 29 = grind (arith, tells) in
+    let f : firstLines (length t / 29) t ≡ Ok (take (length t / 29) (c .loop-k .lines)) = subst (λ n. firstLines n t ≡ Ok (take n (c .loop-k .lines))) k (c .loop-k .inv .1) in
+    let d = good-length t g ∙ f in
+    record { defined = (omega arith, c .loop-k .inv .0, d); written = texts-written t _ d }

@@ -1,3 +1,4 @@
+-- The lines read so far are the first ones of the text.
 use mathlib.Core.Path.{_≡_}
 use lib.ListN.{length, take}
 use Rattle.std.specs.declared.result.Result.the-variants.{Ok}
