@@ -3,5 +3,10 @@ pub mod KindsKnown
 pub mod Laying
 pub mod LayingLines
 pub mod LinesTaken
+pub mod Lowest
 pub mod Rooms
+pub mod RowPlaces
+pub mod RowsIn
 pub mod Tables
+pub mod WeightsExact
+pub mod WeightsPass

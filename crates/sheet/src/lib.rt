@@ -2,6 +2,7 @@
 mod building;
 mod drafting;
 mod drafts;
+mod flow;
 mod kinds;
 mod reading;
 mod rows;
