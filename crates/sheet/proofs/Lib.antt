@@ -1,4 +1,6 @@
 pub mod Checks
+pub mod FirstFault
+pub mod LineFaults
 pub mod Lowest
 pub mod RowPlaces
 pub mod Tables
