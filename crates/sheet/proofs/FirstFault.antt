@@ -28,10 +28,23 @@ use Rattle.sheet.proofs.RowPlaces.{InPlace, misplaced-none, misplaced-first}
 use Rattle.sheet.proofs.WeightsExact.{heavy-first}
 use Rattle.sheet.proofs.LineFaults.{ok-err, same-ok, RefusedAt, refused-at, none-wrong, LineFails, unknown-fails, not-due-fails, operand-fails, count-fails, line-condition}
 
+same-err : {A : Type 0} {x y : Report} → _≡_ {A = Result A Report} (Err x) (Err y) → x ≡ y
+same-err e = cc
+
+none-some : {A : Type 0} {x : A} → None ≡ Some x → ⊥
+none-some {A} {x} e = let z : _≡_ {A = ℕ} 0 1 = cc in omega arith
+
+blank : Numbers
+blank = record { kind = 0; operands = record { first = 0; second = 0; third = 0; fourth = 0; fifth = 0; sixth = 0 } }
+
 -- the first of two steps is refused, or the second
 refused-where : {A B E : Type 0} (o : Result A E) (f : A → Result B E) (e : E) → onward o f ≡ Err e → (o ≡ Err e) ⊎ ((x : A) × (o ≡ Ok x) × (f x ≡ Err e))
 refused-where (Ok x) f e r = inr (x, refl, r)
 refused-where (Err d) f e r = inl (let q : d ≡ e = cc in ap Err q)
+
+row-refused : (n : ℕ) (o : Option ℕ) (other : Result Routine Report) (e : Report) → refusedAt n o other ≡ Err e → ((i : ℕ) × (o ≡ Some i) × (e ≡ plain n i)) ⊎ ((o ≡ None) × (other ≡ Err e))
+row-refused n (Some i) other e r = inl (i, refl, sym (same-err r))
+row-refused n None other e r = inr (refl, r)
 
 -- where the condition of a number that is not about lines' layout holds
 data Found (t : List ℕ) (ls : List Numbers) (m q : ℕ) : Type 0 where
@@ -97,4 +110,150 @@ not-itself : (m q n p : ℕ) → m ≡ n → q ≡ p → Ahead m q n p → ⊥
 not-itself m q n p e f a = elim (same-turn (turn m) (turn n) (ap turn e) a) [
     inl h ↦ omega arith
   | inr h ↦ let l = h .1 in omega arith
+  ]
+
+-- the length, and a line's layout
+found-turn : (t : List ℕ) (ls : List Numbers) (m q : ℕ) → Found t ls m q → 2 ≤ turn m
+found-turn t ls m q (in-line k p l e two h a g f) = omega (arith, two)
+found-turn t ls m q (at-end p e f a c) = let z : turn m ≡ 2 = ap turn e in omega (arith, z)
+found-turn t ls m q (in-rows p e a h l b) = let z : turn m ≡ 3 = ap turn e in omega (arith, z)
+found-turn t ls m q (in-pieces p e a h) = let z : turn m ≡ 4 = ap turn e in omega (arith, z)
+
+not-before-length : (t : List ℕ) (m q : ℕ) → Ahead m q 101 0 → Sorted t m q → ⊥
+not-before-length t m q a (inl (by-length e b)) = elim (same-turn (turn m) 0 (ap turn e) a) [
+    inl h ↦ omega arith
+  | inr h ↦ let l = h .1 in omega arith
+  ]
+not-before-length t m q a (inl (by-layout k e p b h x)) = not-later m q 101 0 102 e a (omega arith)
+not-before-length t m q a (inr (ls, r, f)) = let o = ordered (turn m) 0 a in let g = found-turn t ls m q f in omega (arith, o, g)
+
+not-before-line : (t : List ℕ) (e : Report) (b : BadLine t e) (m q : ℕ) → Ahead m q 102 (suc (b .j)) → Sorted t m q → ⊥
+not-before-line t e b m q a (inl (by-length n x)) = both-ways (badLength (length t)) (b .good-length) x
+not-before-line t e b m q a (inl (by-layout k n p g h x)) = elim (same-turn (turn m) 1 (ap turn n) a) [
+    inl l ↦
+      let f = b .fine-ahead k (omega arith) in
+      none-some (sym x ∙ f .1)
+  | inr l ↦ let u = l .1 in omega arith
+  ]
+not-before-line t e b m q a (inr (ls, r, f)) = let o = ordered (turn m) 1 a in let g = found-turn t ls m q f in omega (arith, o, g)
+
+text-first : (t : List ℕ) (e : Report) → linesOf t ≡ Err e → First t e
+text-first t e r = elim (texts-refused t e r) [
+    inl b ↦ record { number = 101; place = 0; fault = b .fault; holds = wrong-length (b .bad-length); none-ahead = λ m q a c. not-before-length t m q a (sorted t m q c) }
+  | inr b ↦ record { number = 102; place = suc (b .j); fault = b .fault; holds = broken-line (b .good-length) (b .inside) (b .broken); none-ahead = λ m q a c. not-before-line t e b m q a (sorted t m q c) }
+  ]
+
+-- a line
+earlier-line : (ls : List Numbers) (j : ℕ) (r p : Progress) (k : ℕ) (l : Numbers) (w : Problem) → allLines start 1 (take j ls) ≡ Ok r → j < length ls → k < j → allLines start 1 (take k ls) ≡ Ok p → l ≡ getD ls k l → lineMore p l ≡ Err w → ⊥
+earlier-line ls j r p k l w a i h s g f =
+    let n = length-take-le j ls (omega arith) in
+    none-wrong r p (take j ls) k l w a (omega arith) (ap (allLines start 1) (take-take k j ls (omega arith)) ∙ s) (g ∙ sym (getD-take j ls k l h)) f
+
+same-line : (ls : List Numbers) (j k : ℕ) (q p : Progress) (d l : Numbers) (v w : Problem) → k ≡ j → k < length ls → allLines start 1 (take j ls) ≡ Ok q → lineMore q (getD ls j d) ≡ Err v
+    → allLines start 1 (take k ls) ≡ Ok p → l ≡ getD ls k l → lineMore p l ≡ Err w → number v ≡ number w
+same-line ls j k q p d l v w e h a r s g f =
+    let x : l ≡ getD ls j d = g ∙ (getD-default ls k l d h ∙ ap (λ i. getD ls i d) e) in
+    let y : q ≡ p = same-ok a (sym (ap (λ i. allLines start 1 (take i ls)) e) ∙ s) in
+    let z : lineMore q (getD ls j d) ≡ lineMore p l = ap (λ u. lineMore u (getD ls j d)) y ∙ ap (lineMore p) (sym x) in
+    let o : Err v ≡ Err w = sym r ∙ (z ∙ f) in
+    let b : v ≡ w = cc in ap number b
+
+module _ (t : List ℕ) (ls : List Numbers) (e : Report) (d : Numbers) (s : RefusedAt start 1 ls e d) (two : turn (number (s .problem)) ≡ 2) where
+  not-before-refused : allLines start 1 ls ≡ Err e → (m q : ℕ) → Ahead m q (number (s .problem)) (suc (s .j)) → Found t ls m q → ⊥
+  not-before-refused r m q a (in-line k p l n tm h y g (w, f, u)) = elim (same-turn (turn m) (turn (number (s .problem))) (tm ∙ sym two) a) [
+      inl i ↦ earlier-line ls (s .j) (s .q) p k l w (s .says) (s .inside) (omega arith) y g f
+    | inr i ↦
+        let c = i .0 in
+        let x = i .1 in
+        let v = same-line ls (s .j) k (s .q) p d l (s .problem) w (omega arith) h (s .says) (s .refused) y g f in
+        omega (arith, v, u, x)
+    ]
+  not-before-refused r m q a (at-end p n f y c) = ok-err (sym y ∙ r)
+  not-before-refused r m q a (in-rows p n y h l b) = ok-err (sym y ∙ r)
+  not-before-refused r m q a (in-pieces p n y h) = ok-err (sym y ∙ r)
+
+line-first : (t : List ℕ) (ls : List Numbers) (e : Report) → linesOf t ≡ Ok ls → allLines start 1 ls ≡ Err e → First t e
+line-first t ls e r a =
+    let s = refused-at start 1 ls e blank a in
+    let g = getD ls (s .j) blank in
+    let j : Judged t (s .j) (s .q) g = record { lines = ls; read = r; inside = s .inside; says = s .says; line = getD-default ls (s .j) blank g (s .inside) } in
+    let c = line-condition t (s .j) (s .q) g (s .problem) j (s .refused) in
+    let n : 1 + s .j ≡ suc (s .j) = omega arith in
+    record {
+      number = number (s .problem); place = suc (s .j); fault = s .fault ∙ ap (plain (number (s .problem))) n; holds = c .0;
+      none-ahead = λ m q h x. not-before-refused t ls e blank s (c .1) a m q h (found t ls m q r x)
+    }
+
+-- rows that are missing, in the wrong place, or heavy together
+module _ (t : List ℕ) (ls : List Numbers) (p : Progress) (read : linesOf t ≡ Ok ls) (says : allLines start 1 ls ≡ Ok p) where
+  not-before-end : (m q : ℕ) → Ahead m q 111 (suc (length ls)) → Found t ls m q → ⊥
+  not-before-end m q a (in-line k r l n two h y g (w, f, u)) = none-wrong p r ls k l w says h y g f
+  not-before-end m q a (at-end r e f y c) = not-itself m q 111 (suc (length ls)) e f a
+  not-before-end m q a (in-rows r e y h l b) = not-later m q 111 (suc (length ls)) 114 e a (omega arith)
+  not-before-end m q a (in-pieces r e y h) = not-later m q 111 (suc (length ls)) 115 e a (omega arith)
+
+  missing-first : (e : Report) → complete p ≡ false → e ≡ plain 111 (suc (length ls)) → First t e
+  missing-first e c f =
+      record { number = 111; place = suc (length ls); fault = f; holds = missing ls read says c; none-ahead = λ m q a x. not-before-end m q a (found t ls m q read x) }
+
+  module _ (whole : complete p ≡ true) where
+    incomplete : (r : Progress) → allLines start 1 ls ≡ Ok r → complete r ≡ false → ⊥
+    incomplete r y c = both-ways (complete p) (subst (λ u. complete u ≡ false) (same-ok y says) c) whole
+
+    not-before-row : (i m q : ℕ) → ((j : ℕ) → 1 ≤ j → j < i → misplaced (p .routine .rows) j ≡ false) → Ahead m q 114 i → Found t ls m q → ⊥
+    not-before-row i m q b a (in-line k r l n two h y g (w, f, u)) = none-wrong p r ls k l w says h y g f
+    not-before-row i m q b a (at-end r e f y c) = incomplete r y c
+    not-before-row i m q b a (in-rows r e y h l x) = elim (same-turn (turn m) 3 (ap turn e) a) [
+        inl g ↦ both-ways (misplaced (p .routine .rows) q) (b q h g) (subst (λ u. misplaced (u .routine .rows) q ≡ true) (same-ok y says) x)
+      | inr g ↦ let z = g .1 in omega arith
+      ]
+    not-before-row i m q b a (in-pieces r e y h) = not-later m q 114 i 115 e a (omega arith)
+
+    not-before-piece : (i m q : ℕ) → InPlace (p .routine .rows) → ((j : ℕ) → j < i → Heavy (p .routine .rows) j → ⊥) → Ahead m q 115 i → Found t ls m q → ⊥
+    not-before-piece i m q ip b a (in-line k r l n two h y g (w, f, u)) = none-wrong p r ls k l w says h y g f
+    not-before-piece i m q ip b a (at-end r e f y c) = incomplete r y c
+    not-before-piece i m q ip b a (in-rows r e y h l x) =
+        both-ways (misplaced (p .routine .rows) q) (ip q h (subst (λ u. q ≤ length (u .routine .rows)) (same-ok y says) l)) (subst (λ u. misplaced (u .routine .rows) q ≡ true) (same-ok y says) x)
+    not-before-piece i m q ip b a (in-pieces r e y h) = elim (same-turn (turn m) 4 (ap turn e) a) [
+        inl g ↦ b q g (subst (λ u. Heavy (u .routine .rows) q) (same-ok y says) h)
+      | inr g ↦ let z = g .1 in omega arith
+      ]
+
+    the-whole : Whole t (p .routine)
+    the-whole = record { lines = ls; read = read; progress = p; says = says; full = whole; routine = refl }
+
+    row-first : (e : Report) (i : ℕ) → firstMisplaced (p .routine .rows) 1 (p .routine .rows) ≡ Some i → e ≡ plain 114 i → First t e
+    row-first e i s f =
+        let g = misplaced-first (p .routine .rows) i s in
+        record { number = 114; place = i; fault = f; holds = wrong-place the-whole (g .0) (g .1) (g .2); none-ahead = λ m q a x. not-before-row i m q (g .3) a (found t ls m q read x) }
+
+    piece-first : (e : Report) (i : ℕ) → firstMisplaced (p .routine .rows) 1 (p .routine .rows) ≡ None → heavyPiece (p .routine .rows) ≡ Some i → e ≡ plain 115 i → First t e
+    piece-first e i n s f =
+        let ip = misplaced-none (p .routine .rows) n in
+        let g = heavy-first (p .routine .rows) ip i s in
+        record { number = 115; place = i; fault = f; holds = too-heavy the-whole (g .0); none-ahead = λ m q a x. not-before-piece i m q ip (g .1) a (found t ls m q read x) }
+
+    rows-first : (e : Report) → rowsTested (p .routine) ≡ Err e → First t e
+    rows-first e r = elim (row-refused 114 (firstMisplaced (p .routine .rows) 1 (p .routine .rows)) _ e r) [
+        inl (i, s, f) ↦ row-first e i s f
+      | inr (n, x) ↦ elim (row-refused 115 (heavyPiece (p .routine .rows)) _ e x) [
+          inl (i, s, f) ↦ piece-first e i n s f
+        | inr (o, y) ↦ absurd (ok-err y)
+        ]
+      ]
+
+  end-first : (e : Report) → finished (length ls) p ≡ Err e → First t e
+  end-first e r = elim (cases-bool (complete p)) [
+      inl c ↦ rows-first c e (sym (cond-true (complete p) (rowsTested (p .routine)) (Err (plain 111 (suc (length ls)))) c) ∙ r)
+    | inr c ↦ missing-first e c (same-err (sym r ∙ cond-false (complete p) (rowsTested (p .routine)) (Err (plain 111 (suc (length ls)))) c))
+    ]
+
+pub refusals-first : Refusals-first
+unfolding reading
+refusals-first t e r = elim (refused-where (linesOf t) (λ ls. onward (allLines start 1 ls) (λ p. finished (length ls) p)) e r) [
+    inl s ↦ text-first t e s
+  | inr (ls, s, a) ↦ elim (refused-where (allLines start 1 ls) (λ p. finished (length ls) p) e a) [
+      inl b ↦ line-first t ls e s b
+    | inr (p, b, c) ↦ end-first t ls p s b e c
+    ]
   ]
