@@ -1,9 +1,9 @@
 -- A refusal of a text names the first thing that is wrong with it.
 use mathlib.Core.Path.{_≡_, refl, sym, _∙_, ap, subst}
-use mathlib.Core.List.{List, [], _∷_}
-use mathlib.Core.Bool.{Bool, true, false, cond}
+use mathlib.Core.List.{List}
+use mathlib.Core.Bool.{true, false}
 use mathlib.Core.Logic.{_⊎_, inl, inr}
-use Prim.Native.Nat.{ℕ, zero, suc, _+_, _*_, _/_, _≤_, _<_}
+use Prim.Native.Nat.{ℕ, suc, _+_, _*_, _/_, _≤_, _<_}
 use native.Mathlib.Omega.{arith}
 use lib.ListN.{length, getD, take}
 use Rattle.std.specs.declared.option.Option.{Option}
@@ -17,15 +17,15 @@ use Rattle.heap.specs.Faults.{Report, plain, number}
 use Rattle.layout.specs.declared.lines.Numbers.{Numbers}
 use Rattle.layout.specs.Lines.{numbersIn}
 use Rattle.layout.specs.Texts.{badLength, behind, firstLines, linesOf}
-use Rattle.layout.specs.Laws.{BadLength, BadLine}
+use Rattle.layout.specs.Laws.{BadLine}
 use Rattle.layout.proofs.TextsExact.{stays-refused, broken-line as refused-behind, good-length, bad-length}
 use Rattle.layout.proofs.TextsWritten.{texts-refused}
-use Rattle.sheet.specs.Routines.{Command, Routine}
+use Rattle.sheet.specs.Routines.{Routine}
 use Rattle.sheet.specs.Flow.{misplaced, Heavy}
 use Rattle.sheet.specs.Reading.{Progress, start, lineMore, onward, allLines, complete, firstMisplaced, heavyPiece, refusedAt, rowsTested, finished, reading}
 use Rattle.sheet.specs.Laws.{Judged, Whole, Condition, wrong-length, broken-line, no-kind, not-due, missing, bad-operand, too-many, wrong-place, too-heavy, turn, Ahead, First, Refusals-first}
 use Rattle.sheet.proofs.RowPlaces.{InPlace, misplaced-none, misplaced-first}
-use Rattle.sheet.proofs.WeightsExact.{heavy-first}
+use Rattle.sheet.proofs.WeightsExact.{heavy-none, heavy-first}
 use Rattle.sheet.proofs.LineFaults.{ok-err, same-ok, RefusedAt, refused-at, none-wrong, LineFails, unknown-fails, not-due-fails, operand-fails, count-fails, line-condition}
 
 same-err : {A : Type 0} {x y : Report} → _≡_ {A = Result A Report} (Err x) (Err y) → x ≡ y
@@ -159,13 +159,13 @@ same-line ls j k q p d l v w e h a r s g f =
     let b : v ≡ w = cc in ap number b
 
 module _ (t : List ℕ) (ls : List Numbers) (e : Report) (d : Numbers) (s : RefusedAt start 1 ls e d) (two : turn (number (s .problem)) ≡ 2) where
-  not-before-refused : allLines start 1 ls ≡ Err e → (m q : ℕ) → Ahead m q (number (s .problem)) (suc (s .j)) → Found t ls m q → ⊥
+  not-before-refused : allLines start 1 ls ≡ Err e → (m q : ℕ) → Ahead m q (number (s .problem)) (suc (s .line)) → Found t ls m q → ⊥
   not-before-refused r m q a (in-line k p l n tm h y g (w, f, u)) = elim (same-turn (turn m) (turn (number (s .problem))) (tm ∙ sym two) a) [
-      inl i ↦ earlier-line ls (s .j) (s .q) p k l w (s .says) (s .inside) (omega arith) y g f
+      inl i ↦ earlier-line ls (s .line) (s .ahead) p k l w (s .says) (s .inside) (omega arith) y g f
     | inr i ↦
         let c = i .0 in
         let x = i .1 in
-        let v = same-line ls (s .j) k (s .q) p d l (s .problem) w (omega arith) h (s .says) (s .refused) y g f in
+        let v = same-line ls (s .line) k (s .ahead) p d l (s .problem) w (omega arith) h (s .says) (s .refused) y g f in
         omega (arith, v, u, x)
     ]
   not-before-refused r m q a (at-end p n f y c) = ok-err (sym y ∙ r)
@@ -175,12 +175,12 @@ module _ (t : List ℕ) (ls : List Numbers) (e : Report) (d : Numbers) (s : Refu
 line-first : (t : List ℕ) (ls : List Numbers) (e : Report) → linesOf t ≡ Ok ls → allLines start 1 ls ≡ Err e → First t e
 line-first t ls e r a =
     let s = refused-at start 1 ls e blank a in
-    let g = getD ls (s .j) blank in
-    let j : Judged t (s .j) (s .q) g = record { lines = ls; read = r; inside = s .inside; says = s .says; line = getD-default ls (s .j) blank g (s .inside) } in
-    let c = line-condition t (s .j) (s .q) g (s .problem) j (s .refused) in
-    let n : 1 + s .j ≡ suc (s .j) = omega arith in
+    let g = getD ls (s .line) blank in
+    let j : Judged t (s .line) (s .ahead) g = record { lines = ls; read = r; inside = s .inside; says = s .says; line = getD-default ls (s .line) blank g (s .inside) } in
+    let c = line-condition t (s .line) (s .ahead) g (s .problem) j (s .refused) in
+    let n : 1 + s .line ≡ suc (s .line) = omega arith in
     record {
-      number = number (s .problem); place = suc (s .j); fault = s .fault ∙ ap (plain (number (s .problem))) n; holds = c .0;
+      number = number (s .problem); place = suc (s .line); fault = s .fault ∙ ap (plain (number (s .problem))) n; holds = c .0;
       none-ahead = λ m q h x. not-before-refused t ls e blank s (c .1) a m q h (found t ls m q r x)
     }
 
@@ -209,13 +209,17 @@ module _ (t : List ℕ) (ls : List Numbers) (p : Progress) (read : linesOf t ≡
       ]
     not-before-row i m q b a (in-pieces r e y h) = not-later m q 114 i 115 e a (omega arith)
 
-    not-before-piece : (i m q : ℕ) → InPlace (p .routine .rows) → ((j : ℕ) → j < i → Heavy (p .routine .rows) j → ⊥) → Ahead m q 115 i → Found t ls m q → ⊥
-    not-before-piece i m q ip b a (in-line k r l n two h y g (w, f, u)) = none-wrong p r ls k l w says h y g f
-    not-before-piece i m q ip b a (at-end r e f y c) = incomplete r y c
-    not-before-piece i m q ip b a (in-rows r e y h l x) =
-        both-ways (misplaced (p .routine .rows) q) (ip q h (subst (λ u. q ≤ length (u .routine .rows)) (same-ok y says) l)) (subst (λ u. misplaced (u .routine .rows) q ≡ true) (same-ok y says) x)
-    not-before-piece i m q ip b a (in-pieces r e y h) = elim (same-turn (turn m) 4 (ap turn e) a) [
-        inl g ↦ b q g (subst (λ u. Heavy (u .routine .rows) q) (same-ok y says) h)
+    -- where all rows are in place, only a piece can be wrong
+    only-heavy : (m q : ℕ) → InPlace (p .routine .rows) → Found t ls m q → (m ≡ 115) × Heavy (p .routine .rows) q
+    only-heavy m q ip (in-line k r l n two h y g (w, f, u)) = absurd (none-wrong p r ls k l w says h y g f)
+    only-heavy m q ip (at-end r e f y c) = absurd (incomplete r y c)
+    only-heavy m q ip (in-rows r e y h l x) =
+        absurd (both-ways (misplaced (p .routine .rows) q) (ip q h (subst (λ u. q ≤ length (u .routine .rows)) (same-ok y says) l)) (subst (λ u. misplaced (u .routine .rows) q ≡ true) (same-ok y says) x))
+    only-heavy m q ip (in-pieces r e y h) = (e, subst (λ u. Heavy (u .routine .rows) q) (same-ok y says) h)
+
+    not-before-piece : (i m q : ℕ) → ((j : ℕ) → j < i → Heavy (p .routine .rows) j → ⊥) → Ahead m q 115 i → (m ≡ 115) × Heavy (p .routine .rows) q → ⊥
+    not-before-piece i m q b a (e, h) = elim (same-turn (turn m) 4 (ap turn e) a) [
+        inl g ↦ b q g h
       | inr g ↦ let z = g .1 in omega arith
       ]
 
@@ -231,7 +235,7 @@ module _ (t : List ℕ) (ls : List Numbers) (p : Progress) (read : linesOf t ≡
     piece-first e i n s f =
         let ip = misplaced-none (p .routine .rows) n in
         let g = heavy-first (p .routine .rows) ip i s in
-        record { number = 115; place = i; fault = f; holds = too-heavy the-whole (g .0); none-ahead = λ m q a x. not-before-piece i m q ip (g .1) a (found t ls m q read x) }
+        record { number = 115; place = i; fault = f; holds = too-heavy the-whole (g .0); none-ahead = λ m q a x. not-before-piece i m q (g .1) a (only-heavy m q ip (found t ls m q read x)) }
 
     rows-first : (e : Report) → rowsTested (p .routine) ≡ Err e → First t e
     rows-first e r = elim (row-refused 114 (firstMisplaced (p .routine .rows) 1 (p .routine .rows)) _ e r) [
@@ -257,3 +261,33 @@ refusals-first t e r = elim (refused-where (linesOf t) (λ ls. onward (allLines 
     | inr (p, b, c) ↦ end-first t ls p s b e c
     ]
   ]
+
+-- a text that reads meets no condition
+right-where : {A B E : Type 0} (o : Result A E) (f : A → Result B E) (y : B) → onward o f ≡ Ok y → (x : A) × (o ≡ Ok x) × (f x ≡ Ok y)
+right-where (Ok x) f y r = (x, refl, r)
+right-where (Err d) f y r = absurd (ok-err (sym r))
+
+rows-right : (n : ℕ) (o : Option ℕ) (other : Result Routine Report) (R : Routine) → refusedAt n o other ≡ Ok R → (o ≡ None) × (other ≡ Ok R)
+rows-right n (Some i) other R r = absurd (ok-err (sym r))
+rows-right n None other R r = (refl, r)
+
+finished-right : (k : ℕ) (p : Progress) (R : Routine) → finished k p ≡ Ok R → (complete p ≡ true) × (rowsTested (p .routine) ≡ Ok R)
+finished-right k p R r = elim (cases-bool (complete p)) [
+    inl c ↦ (c, sym (cond-true (complete p) (rowsTested (p .routine)) (Err (plain 111 (suc k))) c) ∙ r)
+  | inr c ↦ absurd (ok-err (sym r ∙ cond-false (complete p) (rowsTested (p .routine)) (Err (plain 111 (suc k))) c))
+  ]
+
+none-found : (t : List ℕ) (ls : List Numbers) (p : Progress) (R : Routine) → linesOf t ≡ Ok ls → allLines start 1 ls ≡ Ok p → finished (length ls) p ≡ Ok R → (m q : ℕ) → Found t ls m q → ⊥
+none-found t ls p R read says r m q f =
+    let c = finished-right (length ls) p R r in
+    let a = rows-right 114 (firstMisplaced (p .routine .rows) 1 (p .routine .rows)) _ R (c .1) in
+    let b = rows-right 115 (heavyPiece (p .routine .rows)) _ R (a .1) in
+    let ip = misplaced-none (p .routine .rows) (a .0) in
+    heavy-none (p .routine .rows) ip (b .0) q (only-heavy t ls p read says (c .0) m q ip f .1)
+
+pub reads-right : (t : List ℕ) (R : Routine) → reading t ≡ Ok R → (m q : ℕ) → Condition t m q → ⊥
+unfolding reading
+reads-right t R r m q c =
+    let s = right-where (linesOf t) (λ ls. onward (allLines start 1 ls) (λ p. finished (length ls) p)) R r in
+    let a = right-where (allLines start 1 (s .0)) (λ p. finished (length (s .0)) p) R (s .2) in
+    none-found t (s .0) (a .0) R (s .1) (a .1) (a .2) m q (found t (s .0) m q (s .1) c)

@@ -26,27 +26,27 @@ ok-err e = let z : _≡_ {A = ℕ} 0 1 = cc in omega arith
 pub same-ok : {A E : Type 0} {o : Result A E} {x y : A} → o ≡ Ok x → o ≡ Ok y → x ≡ y
 same-ok p q = cc
 
--- the lines ahead of line j say q, and the line is refused
+-- a line is refused, where those ahead of it are all right; the first has the number k
 pub record RefusedAt (p : Progress) (k : ℕ) (ls : List Numbers) (e : Report) (d : Numbers) : Type 0 where
-  pub j : ℕ
-  pub inside : j < length ls
-  pub q : Progress
-  pub says : allLines p k (take j ls) ≡ Ok q
+  pub line : ℕ
+  pub inside : line < length ls
+  pub ahead : Progress
+  pub says : allLines p k (take line ls) ≡ Ok ahead
   pub problem : Problem
-  pub refused : lineMore q (getD ls j d) ≡ Err problem
-  pub fault : e ≡ plain (number problem) (k + j)
+  pub refused : lineMore ahead (getD ls line d) ≡ Err problem
+  pub fault : e ≡ plain (number problem) (k + line)
 
 first-line : (p : Progress) (k : ℕ) (l : Numbers) (ls : List Numbers) (e : Report) (d : Numbers) (w : Problem) → lineMore p l ≡ Err w → e ≡ plain (number w) k → RefusedAt p k (l ∷ ls) e d
 first-line p k l ls e d w r f =
-    record { j = 0; inside = omega arith; q = p; says = refl; problem = w; refused = r; fault = let n : k ≡ k + 0 = omega arith in f ∙ ap (plain (number w)) n }
+    record { line = 0; inside = omega arith; ahead = p; says = refl; problem = w; refused = r; fault = let n : k ≡ k + 0 = omega arith in f ∙ ap (plain (number w)) n }
 
 later-line : (p q : Progress) (k : ℕ) (l : Numbers) (ls : List Numbers) (e : Report) (d : Numbers) → lineMore p l ≡ Ok q → RefusedAt q (suc k) ls e d → RefusedAt p k (l ∷ ls) e d
 later-line p q k l ls e d r s =
     record {
-      j = suc (s .j); inside = let h = s .inside in omega arith; q = s .q;
-      says = ap (λ o. onward (atPlace k o) (λ u. allLines u (suc k) (take (s .j) ls))) r ∙ s .says;
+      line = suc (s .line); inside = let h = s .inside in omega arith; ahead = s .ahead;
+      says = ap (λ o. onward (atPlace k o) (λ u. allLines u (suc k) (take (s .line) ls))) r ∙ s .says;
       problem = s .problem; refused = s .refused;
-      fault = let n : suc k + s .j ≡ k + suc (s .j) = omega arith in s .fault ∙ ap (plain (number (s .problem))) n
+      fault = let n : suc k + s .line ≡ k + suc (s .line) = omega arith in s .fault ∙ ap (plain (number (s .problem))) n
     }
 
 by-line : (p : Progress) (k : ℕ) (l : Numbers) (ls : List Numbers) (e : Report) (d : Numbers) → ((q : Progress) → allLines q (suc k) ls ≡ Err e → RefusedAt q (suc k) ls e d)
