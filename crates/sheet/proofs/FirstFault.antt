@@ -18,6 +18,7 @@ use Rattle.layout.specs.declared.lines.Numbers.{Numbers}
 use Rattle.layout.specs.Lines.{numbersIn}
 use Rattle.layout.specs.Texts.{badLength, behind, firstLines, linesOf}
 use Rattle.layout.specs.Laws.{BadLine}
+use Rattle.layout.proofs.ColumnsExact.{none-some}
 use Rattle.layout.proofs.TextsExact.{stays-refused, broken-line as refused-behind, good-length, bad-length}
 use Rattle.layout.proofs.TextsWritten.{texts-refused}
 use Rattle.sheet.specs.Routines.{Routine}
@@ -31,9 +32,6 @@ use Rattle.sheet.proofs.LineFaults.{ok-err, same-ok, RefusedAt, refused-at, no
 same-err : {A : Type 0} {x y : Report} → _≡_ {A = Result A Report} (Err x) (Err y) → x ≡ y
 same-err e = cc
 
-none-some : {A : Type 0} {x : A} → None ≡ Some x → ⊥
-none-some {A} {x} e = let z : _≡_ {A = ℕ} 0 1 = cc in omega arith
-
 blank : Numbers
 blank = record { kind = 0; operands = record { first = 0; second = 0; third = 0; fourth = 0; fifth = 0; sixth = 0 } }
 
@@ -46,14 +44,14 @@ row-refused : (n : ℕ) (o : Option ℕ) (other : Result Routine Report) (e : Re
 row-refused n (Some i) other e r = inl (i, refl, sym (same-err r))
 row-refused n None other e r = inr (refl, r)
 
--- where the condition of a number that is not about lines' layout holds
+-- where a condition holds in a text that has lines
 data Found (t : List ℕ) (ls : List Numbers) (m q : ℕ) : Type 0 where
   in-line : (k : ℕ) (p : Progress) (l : Numbers) → q ≡ suc k → turn m ≡ 2 → k < length ls → allLines start 1 (take k ls) ≡ Ok p → l ≡ getD ls k l → LineFails p l m → Found t ls m q
   at-end : (p : Progress) → m ≡ 111 → q ≡ suc (length ls) → allLines start 1 ls ≡ Ok p → complete p ≡ false → Found t ls m q
   in-rows : (p : Progress) → m ≡ 114 → allLines start 1 ls ≡ Ok p → 1 ≤ q → q ≤ length (p .routine .rows) → misplaced (p .routine .rows) q ≡ true → Found t ls m q
   in-pieces : (p : Progress) → m ≡ 115 → allLines start 1 ls ≡ Ok p → Heavy (p .routine .rows) q → Found t ls m q
 
--- or the text has no lines
+-- the two conditions of a text that has none
 data Unread (t : List ℕ) (m q : ℕ) : Type 0 where
   by-length : m ≡ 101 → badLength (length t) ≡ true → Unread t m q
   by-layout : (k : ℕ) → m ≡ 102 → q ≡ suc k → badLength (length t) ≡ false → suc k * 29 ≤ length t → numbersIn (behind t k) ≡ None → Unread t m q
