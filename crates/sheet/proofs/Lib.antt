@@ -1,7 +1,9 @@
 pub mod Checks
+pub mod FirstFault
 pub mod KindsKnown
 pub mod Laying
 pub mod LayingLines
+pub mod LineFaults
 pub mod LinesTaken
 pub mod Lowest
 pub mod Rooms

@@ -7,7 +7,6 @@ use Prim.Native.Nat.{ℕ, zero, suc, _+_, _-_, max, _≤_, _<_}
 use native.Mathlib.Omega.{arith}
 use lib.Dec.{ltb, eqb}
 use lib.ListN.{length, getD, drop}
-use Rattle.std.specs.declared.option.Option.{Option}
 use Rattle.std.specs.declared.option.Option.the-variants.{Some, None}
 use Rattle.std.proofs.shelf.Lists.{getD-drop, getD-past, drop-drop}
 use Rattle.std.proofs.shelf.Tests.{false≢true, both-ways, cases-eq, cases-lt, cases-bool, cond-true, cond-false, and-from, and-parts, or-parts, or-cases, or-left, or-right, not-false, ltb-true, lt-ltb, le-ltb, eqb-true, eq-eqb, ne-eqb}
@@ -15,7 +14,7 @@ use Rattle.std.proofs.shelf.Ways.{tells}
 use Rattle.sheet.specs.Kinds.{weightOf}
 use Rattle.sheet.specs.Routines.{Command, assign, load, store, new, free, jump, branch, cut, call, done}
 use Rattle.sheet.specs.Written.{commandKind}
-use Rattle.sheet.specs.Flow.{rowAt, isCut, opens, closes, ends, strays, badTarget, misplaced, Leads, Way, close, step, Opens, Heavy}
+use Rattle.sheet.specs.Flow.{rowAt, isCut, opens, closes, ends, strays, badTarget, Leads, Way, close, step, Opens, Heavy}
 use Rattle.sheet.specs.Reading.{ahead, weighs, weights, firstHeavy, heavyPiece}
 use Rattle.sheet.proofs.Lowest.{lowest, lowest-none, none-lowest, lowest-some}
 use Rattle.sheet.proofs.RowPlaces.{InPlace}
