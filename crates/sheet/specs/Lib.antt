@@ -8,3 +8,4 @@ pub mod Laws
 pub mod ModelDrafts
 pub mod Laid
 pub mod ModelReading
+pub mod Sheets

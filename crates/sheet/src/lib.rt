@@ -4,6 +4,10 @@ mod drafting;
 mod drafts;
 mod flow;
 mod kinds;
+mod making;
 mod reading;
 mod rows;
+mod sealed;
 mod sheets;
+
+pub use sealed::Sheet;
