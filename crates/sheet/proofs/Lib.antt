@@ -8,10 +8,13 @@ pub mod LayingLines
 pub mod LineFaults
 pub mod LinesTaken
 pub mod Lowest
+pub mod ReadPromises
 pub mod ReadWhole
+pub mod ReadsText
 pub mod Rooms
 pub mod RowPlaces
 pub mod RowsIn
 pub mod Tables
+pub mod TextReads
 pub mod WeightsExact
 pub mod WeightsPass

@@ -9,3 +9,4 @@ pub mod ModelDrafts
 pub mod Laid
 pub mod ModelReading
 pub mod Sheets
+pub mod Contents

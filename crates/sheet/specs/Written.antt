@@ -78,5 +78,5 @@ linesFor R =
     headLine R (length (R .rows)) ∷ listLine Before ∷ (map atomLine (R .before)
     ++ (listLine After ∷ (map atomLine (R .after) ++ joined commandLines (R .rows))))
 
-abbrev pub textOf : Routine → List ℕ
+unfoldable pub textOf : Routine → List ℕ
 textOf R = joined written (linesFor R)

@@ -10,4 +10,7 @@ mod rows;
 mod sealed;
 mod sheets;
 
+pub use rows::AtomList;
+pub use rows::Row;
 pub use sealed::Sheet;
+pub use sheets::Body;

@@ -1,0 +1,9 @@
+// The lines that programs print: an answer in two columns, and what a sheet holds.
+mod lines;
+mod summaries;
+
+pub use lines::Shown;
+pub use lines::answer;
+pub use lines::refusal;
+pub use summaries::line_for;
+pub use summaries::summary;
