@@ -4,6 +4,7 @@ pub mod KindsKnown
 pub mod Laying
 pub mod LayingLines
 pub mod LineFaults
+pub mod LineRuns
 pub mod LinesTaken
 pub mod Lowest
 pub mod Rooms
