@@ -5,6 +5,7 @@ pub mod Laying
 pub mod LayingLines
 pub mod LineFaults
 pub mod LineRuns
+pub mod LinesKept
 pub mod LinesTaken
 pub mod Lowest
 pub mod Rooms
