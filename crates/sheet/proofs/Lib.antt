@@ -1,5 +1,6 @@
 pub mod Checks
 pub mod FirstFault
+pub mod FormedSoFar
 pub mod KindsKnown
 pub mod Laying
 pub mod LayingLines

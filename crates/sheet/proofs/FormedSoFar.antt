@@ -1,0 +1,190 @@
+-- What is known of a routine while its lines are read, and that each line that is taken adds itself to what the routine is written as.
+use mathlib.Core.Path.{_≡_, refl, sym, _∙_, ap, subst}
+use mathlib.Core.List.{List, [], _∷_, _++_, map}
+use mathlib.Core.Bool.{Bool, true, false, _&&_, _||_}
+use Prim.Native.Nat.{ℕ, suc, _+_, _≤_, _<_}
+use native.Mathlib.Omega.{arith}
+use lib.Dec.{leb, ltb}
+use lib.ListN.{length}
+use Rattle.std.specs.declared.option.Option.{Option}
+use Rattle.std.specs.declared.option.Option.the-variants.{Some, None}
+use Rattle.std.specs.shelf.Lists.{All, joined}
+use Rattle.std.proofs.shelf.Lists.{append-assoc, append-nil, length-push, map-push, joined-more}
+use Rattle.std.proofs.shelf.Elements.{all-push}
+use Rattle.std.proofs.shelf.Tests.{false≢true, and-parts, or-parts, ltb-true, leb-false}
+use Rattle.heap.specs.declared.atoms.Atom.{Atom}
+use Rattle.layout.specs.declared.lines.Six.{Six}
+use Rattle.layout.specs.declared.lines.Numbers.{Numbers}
+use Rattle.sheet.specs.declared.kinds.Kind.{Kind}
+use Rattle.sheet.specs.declared.kinds.Kind.the-variants.{Head, Before, After, Equal, Unequal, Cell, Segment, Set, Load, Store, New, Free, Jump, Branch, Cut, Call, Done}
+use Rattle.sheet.specs.declared.kinds.Role.{Role}
+use Rattle.sheet.specs.declared.kinds.Role.the-variants as role
+use Rattle.sheet.specs.declared.kinds.Scope.{Scope}
+use Rattle.sheet.specs.declared.drafts.Stage.{Stage}
+use Rattle.sheet.specs.declared.drafts.Stage.the-variants.{Start, Headed, BeforeList, Rows}
+use Rattle.sheet.specs.Kinds.{roleOf, classesOf, fits}
+use Rattle.sheet.specs.Routines.{Command, assign, load, store, new, free, jump, branch, cut, call, done, Routine, listOf, atomsBehind, total}
+use Rattle.sheet.specs.Written.{six, lineAs, atomKind, atomColumns, atomLine, commandKind, commandColumns, commandLines, headColumns, headLine, listLine}
+use Rattle.sheet.specs.Formed.{ListFormed, excepted}
+use Rattle.sheet.specs.declared.drafts.Open.{Open}
+use Rattle.sheet.specs.Reading.{Progress, scopeIn, openBehind, openLast, openAt, isOpen, full, lastOf, scopeOpen, scopeFor, due, overfull, headScope, atRows, withAtom, atLast, withRows, withBefore, withAfter, withHead, atomInRows, atomInto, atomFor, commandFor, nextBy}
+use Rattle.sheet.proofs.Laying.{ends-in, last-of, at-last}
+use Rattle.sheet.proofs.LayingLines.{atoms-push, no-list-yet}
+use Rattle.sheet.proofs.LinesKept.{columns-kept, keptBy}
+
+abbrev pub scopeWith : ℕ → ℕ → ℕ → ℕ → ℕ → Scope
+scopeWith v g n named except = record { variables = v; ghosts = g; rows = n; named = named; except = except }
+
+-- an atom over names that may stand there
+abbrev pub AtomFits : Scope → Atom → Type 0
+AtomFits s a = fits s (classesOf (atomKind a)) (atomColumns a) ≡ true
+
+-- a row among v variables, g ghosts and n rows
+pub record RowFits (v g n : ℕ) (c : Command) : Type 0 where
+  pub columns : fits (scopeWith v g n v (commandColumns c .first)) (classesOf (commandKind c)) (commandColumns c) ≡ true
+  pub list : ListFormed (scopeWith v g n v (excepted c)) (listOf c)
+
+abbrev pub HeadFits : Routine → ℕ → Type 0
+HeadFits R n = fits (headScope (R .variables)) (classesOf Head) (headColumns R n) ≡ true
+
+-- what has been read at a stage: the head, which promises n rows, and which lists have begun
+abbrev Begun : Stage → Routine → ℕ → Type 0
+Begun Start R n = (R .before ≡ []) × (R .after ≡ []) × (R .rows ≡ [])
+Begun Headed R n = HeadFits R n × (R .before ≡ []) × (R .after ≡ []) × (R .rows ≡ [])
+Begun BeforeList R n = HeadFits R n × (R .after ≡ []) × (R .rows ≡ [])
+Begun Rows R n = HeadFits R n × (length (R .rows) ≤ n)
+
+pub record Sound (s : Stage) (n : ℕ) (R : Routine) : Type 0 where
+  pub begun : Begun s R n
+  pub before-list : ListFormed (scopeWith (R .variables) (R .ghosts) n (R .arguments) 0) (R .before)
+  pub after-list : ListFormed (scopeWith (R .variables) (R .ghosts) n 1 0) (R .after)
+  pub row-columns : All (RowFits (R .variables) (R .ghosts) n) (R .rows)
+  pub few-atoms : total R ≤ 80
+
+-- the lines that have been read
+abbrev pub linesAt : Stage → ℕ → Routine → List Numbers
+linesAt Start n R = []
+linesAt Headed n R = headLine R n ∷ []
+linesAt BeforeList n R = headLine R n ∷ listLine Before ∷ map atomLine (R .before)
+linesAt Rows n R = headLine R n ∷ listLine Before ∷ (map atomLine (R .before) ++ (listLine After ∷ (map atomLine (R .after) ++ joined commandLines (R .rows))))
+
+-- one line more
+record Grown (ls : List Numbers) (l : Numbers) (s : Stage) (n : ℕ) (R : Routine) : Type 0 where
+  sound : Sound s n R
+  lines : linesAt s n R ≡ ls ++ l ∷ []
+
+list-more : (s : Scope) (l : List Atom) (a : Atom) → ListFormed s l → length l < 8 → AtomFits s a → ListFormed s (l ++ a ∷ [])
+list-more s l a f h g = record { few = simp length-push (omega arith); names = all-push (AtomFits s) l a (f .names) g }
+
+no-list : (s : Scope) (l : List Atom) → l ≡ [] → ListFormed s l
+no-list s l e = subst (ListFormed s) (sym e) (record { few = omega arith; names = tt })
+
+-- a row whose list is open takes one atom more
+module _ (p : Progress) (a : Atom) where
+  abbrev Fitting : Command → Type 0
+  Fitting c = RowFits (p .routine .variables) (p .routine .ghosts) (p .promised) c
+
+  abbrev list : Command → Option Open
+  list c = openBehind (p .routine .variables) c
+
+  row-more : (c : Command) → isOpen (list c) ≡ true → full (list c) ≡ false → Fitting c → AtomFits (scopeOpen p (list c)) a
+      → Fitting (withAtom a c) × (commandLines (withAtom a c) ≡ commandLines c ++ atomLine a ∷ []) × (length (listOf (withAtom a c)) ≡ length (listOf c) + 1)
+  row-more (assign x e) o f r h = absurd (false≢true o)
+  row-more (load x y) o f r h = absurd (false≢true o)
+  row-more (store x e) o f r h = absurd (false≢true o)
+  row-more (new x) o f r h = absurd (false≢true o)
+  row-more (free x) o f r h = absurd (false≢true o)
+  row-more (jump x) o f r h = absurd (false≢true o)
+  row-more (branch x y z) o f r h = absurd (false≢true o)
+  row-more (cut l) o f r h =
+      (record { columns = r .columns; list = list-more (scopeIn p (p .routine .variables) 0) l a (r .list) (leb-false 8 (length l) f) h },
+       ap (λ m. lineAs Cut (six 0 0 0 0 0 0) ∷ m) (map-push atomLine l a), length-push l a)
+  row-more (call x q y z s t l) o f r h =
+      (record { columns = r .columns; list = list-more (scopeIn p (p .routine .variables) x) l a (r .list) (leb-false 8 (length l) f) h },
+       ap (λ m. lineAs Call (six x q y z s t) ∷ m) (map-push atomLine l a), length-push l a)
+  row-more done o f r h = absurd (false≢true o)
+
+all-but-last : {A : Type 0} (P : A → Type 0) (xs : List A) (y : A) → All P (xs ++ y ∷ []) → All P xs × P y
+all-but-last P [] y h = (tt, h .0)
+all-but-last P (x ∷ xs) y h = let r = all-but-last P xs y (h .1) in ((h .0, r .0), r .1)
+
+-- a line behind the lines of the rows
+behind-all : (A B X : List Numbers) (m l : Numbers) → A ++ (m ∷ (B ++ (X ++ l ∷ []))) ≡ (A ++ (m ∷ (B ++ X))) ++ l ∷ []
+behind-all A B X m l = simp append-assoc
+
+last-after : (A B : List Numbers) (m l : Numbers) → A ++ (m ∷ ((B ++ l ∷ []) ++ [])) ≡ (A ++ (m ∷ (B ++ []))) ++ l ∷ []
+last-after A B m l = simp (append-assoc, append-nil)
+
+rows-lines : (n : ℕ) (R : Routine) (rows more : List Command) (l : Numbers) → joined commandLines more ≡ joined commandLines rows ++ l ∷ [] → linesAt Rows n (withRows R more) ≡ linesAt Rows n (withRows R rows) ++ l ∷ []
+rows-lines n R rows more l e =
+    ap (λ m. headLine R n ∷ listLine Before ∷ m)
+      (ap (λ m. map atomLine (R .before) ++ (listLine After ∷ (map atomLine (R .after) ++ m))) e
+      ∙ behind-all (map atomLine (R .before)) (map atomLine (R .after)) (joined commandLines rows) (listLine After) l)
+
+row-longer : (front : List Command) (c d : Command) (l : Numbers) → commandLines d ≡ commandLines c ++ l ∷ [] → joined commandLines (front ++ d ∷ []) ≡ joined commandLines (front ++ c ∷ []) ++ l ∷ []
+row-longer front c d l e =
+    sym (joined-more commandLines [] front d)
+    ∙ (ap (λ m. joined commandLines front ++ m) e
+    ∙ (sym (append-assoc (joined commandLines front) (commandLines c) (l ∷ []))
+    ∙ ap (λ m. m ++ l ∷ []) (joined-more commandLines [] front c)))
+
+-- an atom ahead of the rows
+after-lines : (n : ℕ) (R : Routine) (a : Atom) → linesAt Rows n (withAfter (withRows R []) (R .after ++ a ∷ [])) ≡ linesAt Rows n (withRows R []) ++ atomLine a ∷ []
+after-lines n R a =
+    ap (λ m. headLine R n ∷ listLine Before ∷ m)
+      (ap (λ m. map atomLine (R .before) ++ (listLine After ∷ (m ++ []))) (map-push atomLine (R .after) a)
+      ∙ last-after (map atomLine (R .before)) (map atomLine (R .after)) (listLine After) (atomLine a))
+
+-- an atom behind the rows
+abbrev rowsRead : ℕ → Routine → List Command → Progress
+rowsRead n R rows = record { stage = Rows; promised = n; routine = withRows R rows }
+
+module _ (n : ℕ) (R : Routine) (a : Atom) where
+  -- the list that is open behind rows
+  abbrev opened : List Command → Option Open
+  opened rows = openLast (withRows R rows) (lastOf rows)
+
+  abbrev AtomMore : List Command → Routine → Type 0
+  AtomMore rows S =
+      Sound Rows n (withRows R rows) → isOpen (opened rows) ≡ true → full (opened rows) ≡ false → total (withRows R rows) < 80 → AtomFits (scopeOpen (rowsRead n R rows) (opened rows)) a
+      → Grown (linesAt Rows n (withRows R rows)) (atomLine a) Rows n S
+
+  at-end : (front : List Command) (c : Command) → AtomMore (front ++ c ∷ []) (withRows R (atLast (withAtom a) (front ++ c ∷ [])))
+  at-end front c s o f t h =
+      let rows = front ++ c ∷ [] in
+      let p = rowsRead n R rows in
+      let l = last-of front c in
+      let b = all-but-last (RowFits (R .variables) (R .ghosts) n) front c (s .row-columns) in
+      let m = row-more p a c (sym (ap (λ x. isOpen (openLast (withRows R rows) x)) l) ∙ o) (sym (ap (λ x. full (openLast (withRows R rows) x)) l) ∙ f) (b .1) (subst (λ x. AtomFits (scopeOpen p (openLast (withRows R rows) x)) a) l h) in
+      let x = atoms-push front c in
+      let y = atoms-push front (withAtom a c) in
+      let z = m .2 in
+      let u = length-push front c in
+      let w = length-push front (withAtom a c) in
+      let k = s .begun .1 in
+      subst (λ more. Grown (linesAt Rows n (withRows R rows)) (atomLine a) Rows n (withRows R more)) (sym (at-last (withAtom a) front c))
+        (record {
+          sound = record {
+            begun = (s .begun .0, omega arith); before-list = s .before-list; after-list = s .after-list;
+            row-columns = all-push (RowFits (R .variables) (R .ghosts) n) front (withAtom a c) (b .0) (m .0);
+            few-atoms = omega arith
+          };
+          lines = rows-lines n R rows (front ++ withAtom a c ∷ []) (atomLine a) (row-longer front c (withAtom a c) (atomLine a) (m .1))
+        })
+
+  in-none : AtomMore [] (withAfter (withRows R []) (R .after ++ a ∷ []))
+  in-none s o f t h =
+      let e : length (R .after) < 8 = leb-false 8 (length (R .after)) f in
+      let u = length-push (R .after) a in
+      record {
+        sound = record {
+          begun = s .begun; before-list = s .before-list; after-list = list-more (scopeIn (rowsRead n R []) 1 0) (R .after) a (s .after-list) e h; row-columns = tt; few-atoms = omega arith
+        };
+        lines = after-lines n R a
+      }
+
+  in-rows : (rows : List Command) → AtomMore rows (atomInRows (withRows R rows) a rows)
+  in-rows [] = in-none
+  in-rows (c ∷ cs) =
+      let e = ends-in c cs in
+      subst (λ rows. AtomMore rows (withRows R (atLast (withAtom a) rows))) (sym (e .whole)) (at-end (e .front) (e .last))
