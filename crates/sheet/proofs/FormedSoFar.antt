@@ -27,7 +27,7 @@ use Rattle.sheet.specs.Routines.{Command, assign, load, store, new, free, jump
 use Rattle.sheet.specs.Written.{six, lineAs, atomKind, atomColumns, atomLine, commandKind, commandColumns, commandLines, headColumns, headLine, listLine}
 use Rattle.sheet.specs.Formed.{ListFormed, excepted}
 use Rattle.sheet.specs.declared.drafts.Open.{Open}
-use Rattle.sheet.specs.Reading.{Progress, scopeIn, openBehind, openLast, openAt, isOpen, full, lastOf, scopeOpen, scopeFor, due, overfull, headScope, atRows, withAtom, atLast, withRows, withBefore, withAfter, withHead, atomInRows, atomInto, atomFor, commandFor, nextBy}
+use Rattle.sheet.specs.Reading.{Progress, scopeIn, openBehind, openLast, openAt, isOpen, full, lastOf, scopeOpen, scopeFor, due, overfull, headScope, atStart, atHeaded, atBefore, atRows, withAtom, atLast, withRows, withBefore, withAfter, withHead, atomInRows, atomInto, atomFor, commandFor, nextBy}
 use Rattle.sheet.proofs.Laying.{ends-in, last-of, at-last}
 use Rattle.sheet.proofs.LayingLines.{atoms-push, no-list-yet}
 use Rattle.sheet.proofs.LinesKept.{columns-kept, keptBy}
@@ -188,3 +188,97 @@ module _ (n : ℕ) (R : Routine) (a : Atom) where
   in-rows (c ∷ cs) =
       let e = ends-in c cs in
       subst (λ rows. AtomMore rows (withRows R (atLast (withAtom a) rows))) (sym (e .whole)) (at-end (e .front) (e .last))
+
+-- each kind of line, at the stage where it is due
+abbrev at : Stage → ℕ → Routine → Progress
+at s n R = record { stage = s; promised = n; routine = R }
+
+head-line : (s : Stage) (n : ℕ) (R : Routine) (v : Six ℕ) → Sound s n R → atStart s ≡ true → fits (headScope (v .second)) (classesOf Head) v ≡ true → Grown (linesAt s n R) (lineAs Head v) Headed (v .fifth) (withHead R v)
+head-line Start n R v x u h =
+    let e = columns-kept (headScope (v .second)) (classesOf Head) v h in
+    let b = x .begun in
+    record {
+      sound = record {
+        begun = (subst (λ w. fits (headScope (v .second)) (classesOf Head) w ≡ true) e h, b .0, b .1, b .2);
+        before-list = no-list _ (R .before) (b .0); after-list = no-list _ (R .after) (b .1);
+        row-columns = subst (All (RowFits (v .second) (v .fourth) (v .fifth))) (sym (b .2)) tt; few-atoms = x .few-atoms
+      };
+      lines = ap (λ w. lineAs Head w ∷ []) (sym e)
+    }
+head-line Headed n R v x u h = absurd (false≢true u)
+head-line BeforeList n R v x u h = absurd (false≢true u)
+head-line Rows n R v x u h = absurd (false≢true u)
+
+before-line : (s : Stage) (n : ℕ) (R : Routine) (v : Six ℕ) → Sound s n R → atHeaded s ≡ true → fits (scopeIn (at s n R) 0 0) (classesOf Before) v ≡ true → Grown (linesAt s n R) (lineAs Before v) BeforeList n R
+before-line Start n R v x u h = absurd (false≢true u)
+before-line Headed n R v x u h =
+    let e = columns-kept (scopeIn (at Headed n R) 0 0) (classesOf Before) v h in
+    let b = x .begun in
+    record {
+      sound = record { begun = (b .0, b .2, b .3); before-list = x .before-list; after-list = x .after-list; row-columns = x .row-columns; few-atoms = x .few-atoms };
+      lines = ap (λ l. headLine R n ∷ listLine Before ∷ map atomLine l) (b .1) ∙ ap (λ w. headLine R n ∷ lineAs Before w ∷ []) (sym e)
+    }
+before-line BeforeList n R v x u h = absurd (false≢true u)
+before-line Rows n R v x u h = absurd (false≢true u)
+
+after-line : (s : Stage) (n : ℕ) (R : Routine) (v : Six ℕ) → Sound s n R → atBefore s ≡ true → fits (scopeIn (at s n R) 0 0) (classesOf After) v ≡ true → Grown (linesAt s n R) (lineAs After v) Rows n R
+after-line Start n R v x u h = absurd (false≢true u)
+after-line Headed n R v x u h = absurd (false≢true u)
+after-line BeforeList n R v x u h =
+    let e = columns-kept (scopeIn (at BeforeList n R) 0 0) (classesOf After) v h in
+    let b = x .begun in
+    let z = ap length (b .2) in
+    record {
+      sound = record { begun = (b .0, omega arith); before-list = x .before-list; after-list = x .after-list; row-columns = x .row-columns; few-atoms = x .few-atoms };
+      lines =
+        ap (λ l. headLine R n ∷ listLine Before ∷ (map atomLine (R .before) ++ (listLine After ∷ (map atomLine l ++ joined commandLines (R .rows))))) (b .1)
+        ∙ (ap (λ l. headLine R n ∷ listLine Before ∷ (map atomLine (R .before) ++ (listLine After ∷ joined commandLines l))) (b .2)
+        ∙ ap (λ w. headLine R n ∷ listLine Before ∷ (map atomLine (R .before) ++ (lineAs After w ∷ []))) (sym e))
+    }
+after-line Rows n R v x u h = absurd (false≢true u)
+
+atom-at : (s : Stage) (n : ℕ) (R : Routine) (a : Atom) → Sound s n R → isOpen (openAt s R) ≡ true → AtomFits (scopeOpen (at s n R) (openAt s R)) a → full (openAt s R) ≡ false → total R < 80 → Grown (linesAt s n R) (atomLine a) s n (atomInto s R a)
+atom-at Start n R a x u h f t = absurd (false≢true u)
+atom-at Headed n R a x u h f t = absurd (false≢true u)
+atom-at BeforeList n R a x u h f t =
+    let e : length (R .before) < 8 = leb-false 8 (length (R .before)) f in
+    let z = length-push (R .before) a in
+    record {
+      sound = record { begun = x .begun; before-list = list-more (scopeIn (at BeforeList n R) (R .arguments) 0) (R .before) a (x .before-list) e h; after-list = x .after-list; row-columns = x .row-columns; few-atoms = omega arith };
+      lines = ap (λ l. headLine R n ∷ listLine Before ∷ l) (map-push atomLine (R .before) a)
+    }
+atom-at Rows n R a x u h f t = in-rows n R a (R .rows) x u f t h
+
+atom-line : (s : Stage) (n : ℕ) (R : Routine) (a : Atom) (v : Six ℕ) → v ≡ atomColumns a → Sound s n R → isOpen (openAt s R) ≡ true → fits (scopeOpen (at s n R) (openAt s R)) (classesOf (atomKind a)) v ≡ true
+    → (full (openAt s R) || leb 80 (total R)) ≡ false → Grown (linesAt s n R) (lineAs (atomKind a) v) s n (atomInto s R a)
+atom-line s n R a v e x u h o =
+    let f = or-parts (full (openAt s R)) (leb 80 (total R)) o in
+    subst (λ w. Grown (linesAt s n R) (lineAs (atomKind a) w) s n (atomInto s R a)) (sym e)
+      (atom-at s n R a x u (subst (λ w. fits (scopeOpen (at s n R) (openAt s R)) (classesOf (atomKind a)) w ≡ true) e h) (f .0) (leb-false 80 (total R) (f .1)))
+
+row-at : (s : Stage) (n : ℕ) (R : Routine) (c : Command) → listOf c ≡ [] → Sound s n R → (atRows s && ltb (length (R .rows)) n) ≡ true → fits (scopeIn (at s n R) (R .variables) (commandColumns c .first)) (classesOf (commandKind c)) (commandColumns c) ≡ true
+    → Grown (linesAt s n R) (lineAs (commandKind c) (commandColumns c)) s n (withRows R (R .rows ++ c ∷ []))
+row-at Start n R c e x u h = absurd (false≢true u)
+row-at Headed n R c e x u h = absurd (false≢true u)
+row-at BeforeList n R c e x u h = absurd (false≢true u)
+row-at Rows n R c e x u h =
+    let l = ltb-true (length (R .rows)) n u in
+    let y = length-push (R .rows) c in
+    let z = atoms-push (R .rows) c in
+    let w = ap length e in
+    let t = x .few-atoms in
+    record {
+      sound = record {
+        begun = (x .begun .0, omega arith); before-list = x .before-list; after-list = x .after-list;
+        row-columns = all-push (RowFits (R .variables) (R .ghosts) n) (R .rows) c (x .row-columns) (record { columns = h; list = no-list _ (listOf c) e });
+        few-atoms = omega arith
+      };
+      lines = rows-lines n R (R .rows) (R .rows ++ c ∷ []) (lineAs (commandKind c) (commandColumns c))
+        (sym (joined-more commandLines [] (R .rows) c) ∙ ap (λ m. joined commandLines (R .rows) ++ (lineAs (commandKind c) (commandColumns c) ∷ map atomLine m)) e)
+    }
+
+row-line : (s : Stage) (n : ℕ) (R : Routine) (c : Command) (v : Six ℕ) → v ≡ commandColumns c → listOf c ≡ [] → Sound s n R → (atRows s && ltb (length (R .rows)) n) ≡ true → fits (scopeIn (at s n R) (R .variables) (v .first)) (classesOf (commandKind c)) v ≡ true
+    → Grown (linesAt s n R) (lineAs (commandKind c) v) s n (withRows R (R .rows ++ c ∷ []))
+row-line s n R c v e l x u h =
+    subst (λ w. Grown (linesAt s n R) (lineAs (commandKind c) w) s n (withRows R (R .rows ++ c ∷ []))) (sym e)
+      (row-at s n R c l x u (subst (λ w. fits (scopeIn (at s n R) (R .variables) (w .first)) (classesOf (commandKind c)) w ≡ true) e h))
