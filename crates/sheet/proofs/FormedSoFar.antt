@@ -48,7 +48,7 @@ abbrev pub HeadFits : Routine → ℕ → Type 0
 HeadFits R n = fits (headScope (R .variables)) (classesOf Head) (headColumns R n) ≡ true
 
 -- what has been read at a stage: the head, which promises n rows, and which lists have begun
-abbrev Begun : Stage → Routine → ℕ → Type 0
+abbrev pub Begun : Stage → Routine → ℕ → Type 0
 Begun Start R n = (R .before ≡ []) × (R .after ≡ []) × (R .rows ≡ [])
 Begun Headed R n = HeadFits R n × (R .before ≡ []) × (R .after ≡ []) × (R .rows ≡ [])
 Begun BeforeList R n = HeadFits R n × (R .after ≡ []) × (R .rows ≡ [])
@@ -69,9 +69,9 @@ linesAt BeforeList n R = headLine R n ∷ listLine Before ∷ map atomLine (R .b
 linesAt Rows n R = headLine R n ∷ listLine Before ∷ (map atomLine (R .before) ++ (listLine After ∷ (map atomLine (R .after) ++ joined commandLines (R .rows))))
 
 -- one line more
-record Grown (ls : List Numbers) (l : Numbers) (s : Stage) (n : ℕ) (R : Routine) : Type 0 where
-  sound : Sound s n R
-  lines : linesAt s n R ≡ ls ++ l ∷ []
+pub record Grown (ls : List Numbers) (l : Numbers) (s : Stage) (n : ℕ) (R : Routine) : Type 0 where
+  pub sound : Sound s n R
+  pub lines : linesAt s n R ≡ ls ++ l ∷ []
 
 list-more : (s : Scope) (l : List Atom) (a : Atom) → ListFormed s l → length l < 8 → AtomFits s a → ListFormed s (l ++ a ∷ [])
 list-more s l a f h g = record { few = simp length-push (omega arith); names = all-push (AtomFits s) l a (f .names) g }
@@ -190,7 +190,7 @@ module _ (n : ℕ) (R : Routine) (a : Atom) where
       subst (λ rows. AtomMore rows (withRows R (atLast (withAtom a) rows))) (sym (e .whole)) (at-end (e .front) (e .last))
 
 -- each kind of line, at the stage where it is due
-abbrev at : Stage → ℕ → Routine → Progress
+abbrev pub at : Stage → ℕ → Routine → Progress
 at s n R = record { stage = s; promised = n; routine = R }
 
 head-line : (s : Stage) (n : ℕ) (R : Routine) (v : Six ℕ) → Sound s n R → atStart s ≡ true → fits (headScope (v .second)) (classesOf Head) v ≡ true → Grown (linesAt s n R) (lineAs Head v) Headed (v .fifth) (withHead R v)
@@ -282,3 +282,30 @@ row-line : (s : Stage) (n : ℕ) (R : Routine) (c : Command) (v : Six ℕ) → v
 row-line s n R c v e l x u h =
     subst (λ w. Grown (linesAt s n R) (lineAs (commandKind c) w) s n (withRows R (R .rows ++ c ∷ []))) (sym e)
       (row-at s n R c l x u (subst (λ w. fits (scopeIn (at s n R) (R .variables) (w .first)) (classesOf (commandKind c)) w ≡ true) e h))
+
+-- a line that is right
+module _ (s : Stage) (n : ℕ) (R : Routine) (v : Six ℕ) (x : Sound s n R) where
+  abbrev pub Adds : Kind → Progress → Type 0
+  Adds k q = Grown (linesAt s n R) (lineAs k v) (q .stage) (q .promised) (q .routine)
+
+  kept : (k : Kind) → fits (scopeFor (at s n R) (roleOf k) v) (classesOf k) v ≡ true → v ≡ keptBy (classesOf k) v
+  kept k h = columns-kept (scopeFor (at s n R) (roleOf k) v) (classesOf k) v h
+
+  pub adds : (k : Kind) → due (at s n R) (roleOf k) ≡ true → fits (scopeFor (at s n R) (roleOf k) v) (classesOf k) v ≡ true → overfull (at s n R) (roleOf k) ≡ false → Adds k (nextBy (roleOf k) (at s n R) k v)
+  adds Head u h o = head-line s n R v x u h
+  adds Before u h o = before-line s n R v x u h
+  adds After u h o = after-line s n R v x u h
+  adds Equal u h o = atom-line s n R (atomFor Equal v) v (kept Equal h) x u h o
+  adds Unequal u h o = atom-line s n R (atomFor Unequal v) v (kept Unequal h) x u h o
+  adds Cell u h o = atom-line s n R (atomFor Cell v) v (kept Cell h) x u h o
+  adds Segment u h o = atom-line s n R (atomFor Segment v) v (kept Segment h) x u h o
+  adds Set u h o = row-line s n R (commandFor Set v) v (kept Set h) refl x u h
+  adds Load u h o = row-line s n R (commandFor Load v) v (kept Load h) refl x u h
+  adds Store u h o = row-line s n R (commandFor Store v) v (kept Store h) refl x u h
+  adds New u h o = row-line s n R (commandFor New v) v (kept New h) refl x u h
+  adds Free u h o = row-line s n R (commandFor Free v) v (kept Free h) refl x u h
+  adds Jump u h o = row-line s n R (commandFor Jump v) v (kept Jump h) refl x u h
+  adds Branch u h o = row-line s n R (commandFor Branch v) v (kept Branch h) refl x u h
+  adds Cut u h o = row-line s n R (commandFor Cut v) v (kept Cut h) refl x u h
+  adds Call u h o = row-line s n R (commandFor Call v) v (kept Call h) refl x u h
+  adds Done u h o = row-line s n R (commandFor Done v) v (kept Done h) refl x u h

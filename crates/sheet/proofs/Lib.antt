@@ -9,6 +9,7 @@ pub mod LineRuns
 pub mod LinesKept
 pub mod LinesTaken
 pub mod Lowest
+pub mod ReadsText
 pub mod Rooms
 pub mod RowPlaces
 pub mod RowsIn
