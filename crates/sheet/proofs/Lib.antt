@@ -14,5 +14,6 @@ pub mod Rooms
 pub mod RowPlaces
 pub mod RowsIn
 pub mod Tables
+pub mod TextReads
 pub mod WeightsExact
 pub mod WeightsPass
