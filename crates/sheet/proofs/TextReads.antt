@@ -13,7 +13,7 @@ use Rattle.std.specs.declared.result.Result.the-variants.{Ok, Err}
 use Rattle.std.specs.shelf.Lists.{All, joined}
 use Rattle.std.proofs.shelf.Lists.{append-assoc, append-nil, length-append, length-push, length-map}
 use Rattle.std.proofs.shelf.Elements.{all-weaker, all-append, all-map}
-use Rattle.std.proofs.shelf.Tests.{and-from, or-from, le-leb, lt-leb, lt-ltb, eq-eqb}
+use Rattle.std.proofs.shelf.Tests.{or-from, cond-true, lt-leb, lt-ltb, eq-eqb}
 use Rattle.std.proofs.shelf.Ways.{tells}
 use Rattle.heap.specs.declared.atoms.Atom.{Atom}
 use Rattle.heap.specs.declared.atoms.Atom.the-variants.{Eq, Neq, Next, Lseg}
@@ -33,7 +33,7 @@ use Rattle.sheet.specs.declared.drafts.Open.{Open}
 use Rattle.sheet.specs.Kinds.{roleOf, classesOf, fits}
 use Rattle.sheet.specs.Routines.{Command, assign, load, store, new, free, jump, branch, cut, call, done, Routine, listOf, atomsBehind, total}
 use Rattle.sheet.specs.Written.{six, lineAs, atomKind, atomColumns, atomLine, commandKind, commandColumns, commandLines, headColumns, headLine, listLine, linesFor, textOf}
-use Rattle.sheet.specs.Formed.{ListFormed, RowFormed, WellFormed, excepted}
+use Rattle.sheet.specs.Formed.{scopeOf, ListFormed, RowFormed, WellFormed, excepted}
 use Rattle.sheet.specs.Laws.{Text-reads}
 use Rattle.sheet.specs.Reading.{Progress, start, nothing, openAs, openIn, openBehind, openLast, isOpen, full, lastOf, scopeIn, scopeOpen, scopeFor, headScope, due, overfull, withAtom, atLast, withRows, withBefore, withAfter, withHead, atomInRows, atomInto, atomFor, commandFor, moved, nextBy, lineMore, allLines, onward, complete, firstMisplaced, heavyPiece, refusedAt, rowsTested, finished, reading}
 use Rattle.sheet.proofs.FormedSoFar.{AtomFits, RowFits, HeadFits, scopeWith, at}
@@ -136,3 +136,102 @@ rows-run n R front (c ∷ rest) f h t =
       (runs-append (at Rows n (withRows R front)) (at Rows n (withRows R (front ++ c ∷ []))) (at Rows n (withRows R ((front ++ c ∷ []) ++ rest))) (commandLines c) (joined commandLines rest)
         (row-run n R front c (f .0) (omega arith) (omega arith))
         (rows-run n R (front ++ c ∷ []) rest (f .1) (omega arith) (omega arith)))
+
+-- all lines of a well-formed routine
+head-fits : (own v a g n : ℕ) → own ≤ 15 → 1 ≤ v → v ≤ 6 → a ≤ 2 → a ≤ v → g ≤ 2 → 1 ≤ n → n ≤ 40
+    → (leb own 15 && ((leb 1 v && leb v 6) && ((leb a 2 && leb a (min v 6)) && (leb g 2 && ((leb 1 n && leb n 40) && eqb 0 0))))) ≡ true
+head-fits own v a g n p q r s t u w x = grind (arith, tells)
+
+abbrev rowCount : Routine → ℕ
+rowCount R = length (R .rows)
+
+fitting-rows : (R : Routine) → WellFormed R → All (RowFits (R .variables) (R .ghosts) (rowCount R)) (R .rows)
+fitting-rows R w = all-weaker (RowFormed R) (RowFits (R .variables) (R .ghosts) (rowCount R)) (λ c f. record { columns = f .columns; list = f .list }) (R .rows) (w .row-columns)
+
+all-run : (R : Routine) → WellFormed R → Runs start (linesFor R) (at Rows (rowCount R) R)
+all-run R w =
+    let n = rowCount R in
+    let none = withRows (withAfter (withBefore R []) []) [] in
+    let first = withRows (withAfter R []) [] in
+    let both = withRows R [] in
+    let t = w .few-atoms in
+    let rows = joined commandLines (R .rows) in
+    (at Headed n none, line-taken start Head (headColumns R n) refl (head-fits (R .own) (R .variables) (R .arguments) (R .ghosts) n (w .own-number) (w .some-variable) (w .few-variables) (w .few-arguments) (w .arguments-within) (w .few-ghosts) (w .some-row) (w .few-rows)) refl,
+    (at BeforeList n none, line-taken (at Headed n none) Before (six 0 0 0 0 0 0) refl refl refl,
+    runs-append (at BeforeList n none) (at BeforeList n first) (at Rows n R) (map atomLine (R .before)) (listLine After ∷ (map atomLine (R .after) ++ rows))
+      (before-run n first (w .before-list) (omega arith))
+      (at Rows n first, line-taken (at BeforeList n first) After (six 0 0 0 0 0 0) refl refl refl,
+      runs-append (at Rows n first) (at Rows n both) (at Rows n R) (map atomLine (R .after)) rows
+        (after-run n R (w .after-list) (omega arith))
+        (rows-run n R [] (R .rows) (fitting-rows R w) (omega arith) (omega arith)))))
+
+-- they are short, and at most 123
+module _ (s : Scope) (few : s .variables ≤ 6) (rows : s .rows ≤ 40) (names : s .named ≤ 6) where
+  short-list : (l : List Atom) → ListFormed s l → All Short (map atomLine l)
+  short-list l f = all-map Short atomLine l (all-weaker (AtomFits s) (λ a. Short (atomLine a)) (λ a g. line-short s few rows names (atomKind a) (classesOf (atomKind a)) (atomColumns a) g) l (f .names))
+
+short-rows : (v g n : ℕ) (cs : List Command) → v ≤ 6 → n ≤ 40 → All (RowFits v g n) cs → All Short (joined commandLines cs)
+short-rows v g n [] h k f = tt
+short-rows v g n (c ∷ cs) h k f =
+    let r = f .0 in
+    all-append Short (commandLines c) (joined commandLines cs)
+      (line-short (scopeWith v g n v (commandColumns c .first)) h k h (commandKind c) (classesOf (commandKind c)) (commandColumns c) (r .columns), short-list (scopeWith v g n v (excepted c)) h k h (listOf c) (r .list))
+      (short-rows v g n cs h k (f .1))
+
+short-lines : (R : Routine) → WellFormed R → All Short (linesFor R)
+short-lines R w =
+    let n = rowCount R in
+    let v = w .few-variables in
+    let m = w .few-rows in
+    let a = w .few-arguments in
+    let empty = scopeWith 0 0 0 0 0 in
+    let headed : Short (headLine R n) = (let o = w .own-number in let b = w .few-ghosts in record { kind = omega arith; first = omega arith; second = omega arith; third = omega arith; fourth = omega arith; fifth = omega arith; sixth = omega arith }) in
+    (headed,
+    (line-short empty (omega arith) (omega arith) (omega arith) Before (classesOf Before) (six 0 0 0 0 0 0) refl,
+    all-append Short (map atomLine (R .before)) _ (short-list (scopeOf R (R .arguments) 0) v m (omega arith) (R .before) (w .before-list))
+      (line-short empty (omega arith) (omega arith) (omega arith) After (classesOf After) (six 0 0 0 0 0 0) refl,
+      all-append Short (map atomLine (R .after)) _ (short-list (scopeOf R 1 0) v m (omega arith) (R .after) (w .after-list))
+        (short-rows (R .variables) (R .ghosts) n (R .rows) v m (fitting-rows R w)))))
+
+row-lines : (cs : List Command) → length (joined commandLines cs) ≡ length cs + atomsBehind cs
+row-lines [] = refl
+row-lines (c ∷ cs) =
+    let a = length-append (commandLines c) (joined commandLines cs) in
+    let b = length-map (listOf c) atomLine in
+    let e = row-lines cs in
+    omega arith
+
+line-count : (R : Routine) → length (linesFor R) ≡ 3 + length (R .rows) + total R
+line-count R =
+    let a = length-append (map atomLine (R .before)) (listLine After ∷ (map atomLine (R .after) ++ joined commandLines (R .rows))) in
+    let b = length-append (map atomLine (R .after)) (joined commandLines (R .rows)) in
+    let c = length-map (R .before) atomLine in
+    let d = length-map (R .after) atomLine in
+    let e = row-lines (R .rows) in
+    omega arith
+
+-- behind the last line
+rows-pass : (R : Routine) → WellFormed R → rowsTested R ≡ Ok R
+rows-pass R w =
+    ap (λ o. refusedAt 114 o (refusedAt 115 (heavyPiece (R .rows)) (Ok R))) (none-misplaced (R .rows) (w .in-place))
+    ∙ ap (λ o. refusedAt 115 o (Ok R)) (none-heavy (R .rows) (w .in-place) (w .light))
+
+all-finished : (k : ℕ) (R : Routine) → WellFormed R → finished k (at Rows (rowCount R) R) ≡ Ok R
+all-finished k R w =
+    let n = rowCount R in
+    cond-true (eqb n n) (rowsTested R) _ (eq-eqb n n refl) ∙ rows-pass R w
+
+pub text-reads : Text-reads
+unfolding reading
+text-reads R w =
+    let ls = linesFor R in
+    let n = line-count R in
+    let a = w .few-rows in
+    let b = w .few-atoms in
+    ap (λ o. onward o (λ ms. onward (allLines start 1 ms) (λ p. finished (length ms) p))) (texts-read ls (short-lines R w) (omega arith) (omega arith))
+    ∙ (ap (λ o. onward o (λ p. finished (length ls) p)) (run-lines start (at Rows (rowCount R) R) 1 ls (all-run R w))
+    ∙ all-finished (length ls) R w)
+
+-- so a text reads as no other routine than the one that it is the text of
+pub reads-exactly : (t : List ℕ) (R S : Routine) → reading t ≡ Ok R → WellFormed S → t ≡ textOf S → R ≡ S
+reads-exactly t R S r w e = same-ok r (ap reading e ∙ text-reads S w)
