@@ -1,35 +1,32 @@
 -- What is known of a routine while its lines are read, and that each line that is taken adds itself to what the routine is written as.
 use mathlib.Core.Path.{_≡_, refl, sym, _∙_, ap, subst}
 use mathlib.Core.List.{List, [], _∷_, _++_, map}
-use mathlib.Core.Bool.{Bool, true, false, _&&_, _||_}
-use Prim.Native.Nat.{ℕ, suc, _+_, _≤_, _<_}
+use mathlib.Core.Bool.{true, false, _&&_, _||_}
+use Prim.Native.Nat.{ℕ, _+_, _≤_, _<_}
 use native.Mathlib.Omega.{arith}
 use lib.Dec.{leb, ltb}
 use lib.ListN.{length}
 use Rattle.std.specs.declared.option.Option.{Option}
-use Rattle.std.specs.declared.option.Option.the-variants.{Some, None}
 use Rattle.std.specs.shelf.Lists.{All, joined}
 use Rattle.std.proofs.shelf.Lists.{append-assoc, append-nil, length-push, map-push, joined-more}
 use Rattle.std.proofs.shelf.Elements.{all-push}
-use Rattle.std.proofs.shelf.Tests.{false≢true, and-parts, or-parts, ltb-true, leb-false}
+use Rattle.std.proofs.shelf.Tests.{false≢true, or-parts, ltb-true, leb-false}
 use Rattle.heap.specs.declared.atoms.Atom.{Atom}
 use Rattle.layout.specs.declared.lines.Six.{Six}
 use Rattle.layout.specs.declared.lines.Numbers.{Numbers}
 use Rattle.sheet.specs.declared.kinds.Kind.{Kind}
 use Rattle.sheet.specs.declared.kinds.Kind.the-variants.{Head, Before, After, Equal, Unequal, Cell, Segment, Set, Load, Store, New, Free, Jump, Branch, Cut, Call, Done}
-use Rattle.sheet.specs.declared.kinds.Role.{Role}
-use Rattle.sheet.specs.declared.kinds.Role.the-variants as role
 use Rattle.sheet.specs.declared.kinds.Scope.{Scope}
 use Rattle.sheet.specs.declared.drafts.Stage.{Stage}
 use Rattle.sheet.specs.declared.drafts.Stage.the-variants.{Start, Headed, BeforeList, Rows}
 use Rattle.sheet.specs.Kinds.{roleOf, classesOf, fits}
-use Rattle.sheet.specs.Routines.{Command, assign, load, store, new, free, jump, branch, cut, call, done, Routine, listOf, atomsBehind, total}
+use Rattle.sheet.specs.Routines.{Command, assign, load, store, new, free, jump, branch, cut, call, done, Routine, listOf, total}
 use Rattle.sheet.specs.Written.{six, lineAs, atomKind, atomColumns, atomLine, commandKind, commandColumns, commandLines, headColumns, headLine, listLine}
 use Rattle.sheet.specs.Formed.{ListFormed, excepted}
 use Rattle.sheet.specs.declared.drafts.Open.{Open}
-use Rattle.sheet.specs.Reading.{Progress, scopeIn, openBehind, openLast, openAt, isOpen, full, lastOf, scopeOpen, scopeFor, due, overfull, headScope, atStart, atHeaded, atBefore, atRows, withAtom, atLast, withRows, withBefore, withAfter, withHead, atomInRows, atomInto, atomFor, commandFor, nextBy}
+use Rattle.sheet.specs.Reading.{Progress, scopeIn, openBehind, openLast, openAt, isOpen, full, lastOf, scopeOpen, scopeFor, due, overfull, headScope, atStart, atHeaded, atBefore, atRows, withAtom, atLast, withRows, withAfter, withHead, atomInRows, atomInto, atomFor, commandFor, nextBy}
 use Rattle.sheet.proofs.Laying.{ends-in, last-of, at-last}
-use Rattle.sheet.proofs.LayingLines.{atoms-push, no-list-yet}
+use Rattle.sheet.proofs.LayingLines.{atoms-push, one-atom}
 use Rattle.sheet.proofs.LinesKept.{columns-kept, keptBy}
 
 abbrev pub scopeWith : ℕ → ℕ → ℕ → ℕ → ℕ → Scope
@@ -61,6 +58,9 @@ pub record Sound (s : Stage) (n : ℕ) (R : Routine) : Type 0 where
   pub row-columns : All (RowFits (R .variables) (R .ghosts) n) (R .rows)
   pub few-atoms : total R ≤ 80
 
+abbrev pub at : Stage → ℕ → Routine → Progress
+at s n R = record { stage = s; promised = n; routine = R }
+
 -- the lines that have been read
 abbrev pub linesAt : Stage → ℕ → Routine → List Numbers
 linesAt Start n R = []
@@ -88,7 +88,7 @@ module _ (p : Progress) (a : Atom) where
   list c = openBehind (p .routine .variables) c
 
   row-more : (c : Command) → isOpen (list c) ≡ true → full (list c) ≡ false → Fitting c → AtomFits (scopeOpen p (list c)) a
-      → Fitting (withAtom a c) × (commandLines (withAtom a c) ≡ commandLines c ++ atomLine a ∷ []) × (length (listOf (withAtom a c)) ≡ length (listOf c) + 1)
+      → Fitting (withAtom a c) × (commandLines (withAtom a c) ≡ commandLines c ++ atomLine a ∷ [])
   row-more (assign x e) o f r h = absurd (false≢true o)
   row-more (load x y) o f r h = absurd (false≢true o)
   row-more (store x e) o f r h = absurd (false≢true o)
@@ -98,10 +98,10 @@ module _ (p : Progress) (a : Atom) where
   row-more (branch x y z) o f r h = absurd (false≢true o)
   row-more (cut l) o f r h =
       (record { columns = r .columns; list = list-more (scopeIn p (p .routine .variables) 0) l a (r .list) (leb-false 8 (length l) f) h },
-       ap (λ m. lineAs Cut (six 0 0 0 0 0 0) ∷ m) (map-push atomLine l a), length-push l a)
+       ap (λ m. lineAs Cut (six 0 0 0 0 0 0) ∷ m) (map-push atomLine l a))
   row-more (call x q y z s t l) o f r h =
       (record { columns = r .columns; list = list-more (scopeIn p (p .routine .variables) x) l a (r .list) (leb-false 8 (length l) f) h },
-       ap (λ m. lineAs Call (six x q y z s t) ∷ m) (map-push atomLine l a), length-push l a)
+       ap (λ m. lineAs Call (six x q y z s t) ∷ m) (map-push atomLine l a))
   row-more done o f r h = absurd (false≢true o)
 
 all-but-last : {A : Type 0} (P : A → Type 0) (xs : List A) (y : A) → All P (xs ++ y ∷ []) → All P xs × P y
@@ -136,9 +136,6 @@ after-lines n R a =
       ∙ last-after (map atomLine (R .before)) (map atomLine (R .after)) (listLine After) (atomLine a))
 
 -- an atom behind the rows
-abbrev rowsRead : ℕ → Routine → List Command → Progress
-rowsRead n R rows = record { stage = Rows; promised = n; routine = withRows R rows }
-
 module _ (n : ℕ) (R : Routine) (a : Atom) where
   -- the list that is open behind rows
   abbrev opened : List Command → Option Open
@@ -146,19 +143,20 @@ module _ (n : ℕ) (R : Routine) (a : Atom) where
 
   abbrev AtomMore : List Command → Routine → Type 0
   AtomMore rows S =
-      Sound Rows n (withRows R rows) → isOpen (opened rows) ≡ true → full (opened rows) ≡ false → total (withRows R rows) < 80 → AtomFits (scopeOpen (rowsRead n R rows) (opened rows)) a
+      Sound Rows n (withRows R rows) → isOpen (opened rows) ≡ true → full (opened rows) ≡ false → total (withRows R rows) < 80 → AtomFits (scopeOpen (at Rows n (withRows R rows)) (opened rows)) a
       → Grown (linesAt Rows n (withRows R rows)) (atomLine a) Rows n S
 
   at-end : (front : List Command) (c : Command) → AtomMore (front ++ c ∷ []) (withRows R (atLast (withAtom a) (front ++ c ∷ [])))
   at-end front c s o f t h =
       let rows = front ++ c ∷ [] in
-      let p = rowsRead n R rows in
+      let p = at Rows n (withRows R rows) in
       let l = last-of front c in
       let b = all-but-last (RowFits (R .variables) (R .ghosts) n) front c (s .row-columns) in
-      let m = row-more p a c (sym (ap (λ x. isOpen (openLast (withRows R rows) x)) l) ∙ o) (sym (ap (λ x. full (openLast (withRows R rows) x)) l) ∙ f) (b .1) (subst (λ x. AtomFits (scopeOpen p (openLast (withRows R rows) x)) a) l h) in
+      let q = sym (ap (λ x. isOpen (openLast (withRows R rows) x)) l) ∙ o in
+      let m = row-more p a c q (sym (ap (λ x. full (openLast (withRows R rows) x)) l) ∙ f) (b .1) (subst (λ x. AtomFits (scopeOpen p (openLast (withRows R rows) x)) a) l h) in
       let x = atoms-push front c in
       let y = atoms-push front (withAtom a c) in
-      let z = m .2 in
+      let z = one-atom (R .variables) a c q in
       let u = length-push front c in
       let w = length-push front (withAtom a c) in
       let k = s .begun .1 in
@@ -178,7 +176,7 @@ module _ (n : ℕ) (R : Routine) (a : Atom) where
       let u = length-push (R .after) a in
       record {
         sound = record {
-          begun = s .begun; before-list = s .before-list; after-list = list-more (scopeIn (rowsRead n R []) 1 0) (R .after) a (s .after-list) e h; row-columns = tt; few-atoms = omega arith
+          begun = s .begun; before-list = s .before-list; after-list = list-more (scopeIn (at Rows n (withRows R [])) 1 0) (R .after) a (s .after-list) e h; row-columns = tt; few-atoms = omega arith
         };
         lines = after-lines n R a
       }
@@ -190,9 +188,6 @@ module _ (n : ℕ) (R : Routine) (a : Atom) where
       subst (λ rows. AtomMore rows (withRows R (atLast (withAtom a) rows))) (sym (e .whole)) (at-end (e .front) (e .last))
 
 -- each kind of line, at the stage where it is due
-abbrev pub at : Stage → ℕ → Routine → Progress
-at s n R = record { stage = s; promised = n; routine = R }
-
 head-line : (s : Stage) (n : ℕ) (R : Routine) (v : Six ℕ) → Sound s n R → atStart s ≡ true → fits (headScope (v .second)) (classesOf Head) v ≡ true → Grown (linesAt s n R) (lineAs Head v) Headed (v .fifth) (withHead R v)
 head-line Start n R v x u h =
     let e = columns-kept (headScope (v .second)) (classesOf Head) v h in

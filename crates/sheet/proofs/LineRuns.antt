@@ -1,16 +1,16 @@
 -- Lines that are right, taken one after another, and what makes one line right.
-use mathlib.Core.Path.{_≡_, refl, sym, _∙_, ap, subst}
+use mathlib.Core.Path.{_≡_, sym, _∙_, ap, subst}
 use mathlib.Core.List.{List, [], _∷_, _++_}
 use mathlib.Core.Bool.{Bool, true, false}
 use Prim.Native.Nat.{ℕ, suc}
-use Rattle.std.specs.declared.option.Option.the-variants.{Some, None}
-use Rattle.std.specs.declared.result.Result.the-variants.{Ok, Err}
+use Rattle.std.specs.declared.option.Option.the-variants.{None}
+use Rattle.std.specs.declared.result.Result.the-variants.{Ok}
 use Rattle.layout.specs.declared.lines.Six.{Six}
 use Rattle.layout.specs.declared.lines.Numbers.{Numbers}
 use Rattle.sheet.specs.declared.kinds.Kind.{Kind}
-use Rattle.sheet.specs.Kinds.{roleOf, classesOf, entryOf, fits}
+use Rattle.sheet.specs.Kinds.{roleOf, classesOf, fits}
 use Rattle.sheet.specs.Written.{lineAs}
-use Rattle.sheet.specs.Reading.{Progress, due, scopeFor, overfull, wrong, nextBy, orWrong, lineBy, lineMore, onward, atPlace, allLines}
+use Rattle.sheet.specs.Reading.{Progress, due, scopeFor, overfull, nextBy, orWrong, lineBy, lineMore, onward, atPlace, allLines}
 use Rattle.sheet.proofs.Checks.{tests}
 use Rattle.sheet.proofs.KindsKnown.{found}
 use Rattle.sheet.proofs.LineFaults.{first-right}

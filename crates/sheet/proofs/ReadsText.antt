@@ -1,18 +1,17 @@
 -- A text that reads is the text of the routine that it reads as, and that is well formed.
 use mathlib.Core.Path.{_≡_, refl, sym, _∙_, ap, subst}
 use mathlib.Core.List.{List, [], _∷_, _++_}
-use mathlib.Core.Bool.{true, _&&_}
+use mathlib.Core.Bool.{true}
 use Prim.Native.Nat.{ℕ, min, _≤_}
 use native.Mathlib.Omega.{arith}
-use lib.Dec.{eqb, leb}
+use lib.Dec.{leb}
 use lib.ListN.{length}
 use Rattle.std.specs.declared.option.Option.the-variants.{None}
-use Rattle.std.specs.declared.result.Result.the-variants.{Ok, Err}
-use Rattle.std.specs.shelf.Lists.{All, joined}
+use Rattle.std.specs.declared.result.Result.the-variants.{Ok}
+use Rattle.std.specs.shelf.Lists.{joined}
 use Rattle.std.proofs.shelf.Lists.{append-assoc, append-nil}
 use Rattle.std.proofs.shelf.Elements.{all-weaker}
 use Rattle.std.proofs.shelf.Tests.{false≢true, and-parts, eqb-true, leb-true}
-use Rattle.std.proofs.shelf.Ways.{tells}
 use Rattle.layout.specs.declared.lines.Numbers.{Numbers}
 use Rattle.layout.specs.Lines.{written}
 use Rattle.layout.specs.Texts.{linesOf}
@@ -23,15 +22,15 @@ use Rattle.sheet.specs.declared.drafts.Stage.{Stage}
 use Rattle.sheet.specs.declared.drafts.Stage.the-variants.{Start, Headed, BeforeList, Rows}
 use Rattle.sheet.specs.Kinds.{classesOf, fits}
 use Rattle.sheet.specs.Routines.{Routine}
-use Rattle.sheet.specs.Written.{lineAs, headColumns, linesFor, textOf}
+use Rattle.sheet.specs.Written.{lineAs, headColumns, linesFor}
 use Rattle.sheet.specs.Formed.{WellFormed, RowFormed}
 use Rattle.sheet.specs.Laws.{Reads-text}
-use Rattle.sheet.specs.Reading.{Progress, start, nextBy, due, overfull, scopeFor, lineMore, headScope, complete, allLines, finished, onward, firstMisplaced, heavyPiece, rowsTested, reading}
+use Rattle.sheet.specs.Reading.{Progress, start, nextBy, headScope, complete, allLines, finished, onward, firstMisplaced, heavyPiece, rowsTested, reading}
 use Rattle.sheet.proofs.FirstFault.{right-where, rows-right, finished-right}
-use Rattle.sheet.proofs.FormedSoFar.{HeadFits, RowFits, Begun, Sound, Grown, linesAt, at, adds}
-use Rattle.sheet.proofs.KindsKnown.{Fitting, fitting, Known, known}
+use Rattle.sheet.proofs.FormedSoFar.{HeadFits, RowFits, Sound, linesAt, at, adds}
+use Rattle.sheet.proofs.KindsKnown.{fitting, Known, known}
 use Rattle.sheet.proofs.LineRuns.{Runs, lines-run}
-use Rattle.sheet.proofs.LinesTaken.{Right, right, Taken, taken}
+use Rattle.sheet.proofs.LinesTaken.{Right, right, taken}
 use Rattle.sheet.proofs.RowPlaces.{misplaced-none}
 use Rattle.sheet.proofs.WeightsExact.{heavy-none}
 

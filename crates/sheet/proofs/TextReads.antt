@@ -1,15 +1,12 @@
 -- The text of a well-formed routine reads as that routine.
 use mathlib.Core.Path.{_≡_, refl, sym, _∙_, ap, subst}
 use mathlib.Core.List.{List, [], _∷_, _++_, map}
-use mathlib.Core.Bool.{Bool, true, false, _&&_, _||_}
-use Prim.Native.Nat.{ℕ, suc, min, _+_, _≤_, _<_}
+use mathlib.Core.Bool.{true, false, _&&_, _||_}
+use Prim.Native.Nat.{ℕ, min, _+_, _≤_, _<_}
 use native.Mathlib.Omega.{arith}
-use lib.Dec.{eqb, leb, ltb}
+use lib.Dec.{eqb, leb}
 use lib.ListN.{length}
-use Rattle.std.specs.declared.option.Option.{Option}
-use Rattle.std.specs.declared.option.Option.the-variants.{Some, None}
-use Rattle.std.specs.declared.result.Result.{Result}
-use Rattle.std.specs.declared.result.Result.the-variants.{Ok, Err}
+use Rattle.std.specs.declared.result.Result.the-variants.{Ok}
 use Rattle.std.specs.shelf.Lists.{All, joined}
 use Rattle.std.proofs.shelf.Lists.{append-assoc, append-nil, length-append, length-push, length-map}
 use Rattle.std.proofs.shelf.Elements.{all-weaker, all-append, all-map}
@@ -17,26 +14,21 @@ use Rattle.std.proofs.shelf.Tests.{or-from, cond-true, lt-leb, lt-ltb, eq-eqb}
 use Rattle.std.proofs.shelf.Ways.{tells}
 use Rattle.heap.specs.declared.atoms.Atom.{Atom}
 use Rattle.heap.specs.declared.atoms.Atom.the-variants.{Eq, Neq, Next, Lseg}
-use Rattle.heap.specs.Faults.{Report}
 use Rattle.layout.specs.declared.lines.Six.{Six}
-use Rattle.layout.specs.declared.lines.Numbers.{Numbers}
-use Rattle.layout.specs.Lines.{written, Short}
-use Rattle.layout.specs.Texts.{linesOf}
+use Rattle.layout.specs.Lines.{Short}
 use Rattle.layout.proofs.TextsWritten.{texts-read}
 use Rattle.sheet.specs.declared.kinds.Kind.{Kind}
 use Rattle.sheet.specs.declared.kinds.Kind.the-variants.{Head, Before, After, Equal, Unequal, Cell, Segment, Set, Load, Store, New, Free, Jump, Branch, Cut, Call, Done}
 use Rattle.sheet.specs.declared.kinds.Role.the-variants as role
 use Rattle.sheet.specs.declared.kinds.Scope.{Scope}
-use Rattle.sheet.specs.declared.drafts.Stage.{Stage}
-use Rattle.sheet.specs.declared.drafts.Stage.the-variants.{Start, Headed, BeforeList, Rows}
-use Rattle.sheet.specs.declared.drafts.Open.{Open}
+use Rattle.sheet.specs.declared.drafts.Stage.the-variants.{Headed, BeforeList, Rows}
 use Rattle.sheet.specs.Kinds.{roleOf, classesOf, fits}
 use Rattle.sheet.specs.Routines.{Command, assign, load, store, new, free, jump, branch, cut, call, done, Routine, listOf, atomsBehind, total}
 use Rattle.sheet.specs.Written.{six, lineAs, atomKind, atomColumns, atomLine, commandKind, commandColumns, commandLines, headColumns, headLine, listLine, linesFor, textOf}
 use Rattle.sheet.specs.Formed.{scopeOf, ListFormed, RowFormed, WellFormed, excepted}
 use Rattle.sheet.specs.Laws.{Text-reads}
-use Rattle.sheet.specs.Reading.{Progress, start, nothing, openAs, openIn, openBehind, openLast, isOpen, full, lastOf, scopeIn, scopeOpen, scopeFor, headScope, due, overfull, withAtom, atLast, withRows, withBefore, withAfter, withHead, atomInRows, atomInto, atomFor, commandFor, moved, nextBy, lineMore, allLines, onward, complete, firstMisplaced, heavyPiece, refusedAt, rowsTested, finished, reading}
-use Rattle.sheet.proofs.FormedSoFar.{AtomFits, RowFits, HeadFits, scopeWith, at}
+use Rattle.sheet.specs.Reading.{Progress, start, openAs, openIn, openBehind, openLast, isOpen, full, scopeIn, scopeOpen, scopeFor, due, overfull, withAtom, withRows, withBefore, withAfter, atomInRows, atomInto, commandFor, moved, nextBy, lineMore, allLines, onward, heavyPiece, refusedAt, rowsTested, finished, reading}
+use Rattle.sheet.proofs.FormedSoFar.{AtomFits, RowFits, scopeWith, at}
 use Rattle.sheet.proofs.Laying.{last-of, at-last}
 use Rattle.sheet.proofs.LayingLines.{atoms-push}
 use Rattle.sheet.proofs.LineFaults.{same-ok}
