@@ -261,15 +261,15 @@ refusals-first t e r = elim (refused-where (linesOf t) (λ ls. onward (allLines 
   ]
 
 -- a text that reads meets no condition
-right-where : {A B E : Type 0} (o : Result A E) (f : A → Result B E) (y : B) → onward o f ≡ Ok y → (x : A) × (o ≡ Ok x) × (f x ≡ Ok y)
+pub right-where : {A B E : Type 0} (o : Result A E) (f : A → Result B E) (y : B) → onward o f ≡ Ok y → (x : A) × (o ≡ Ok x) × (f x ≡ Ok y)
 right-where (Ok x) f y r = (x, refl, r)
 right-where (Err d) f y r = absurd (ok-err (sym r))
 
-rows-right : (n : ℕ) (o : Option ℕ) (other : Result Routine Report) (R : Routine) → refusedAt n o other ≡ Ok R → (o ≡ None) × (other ≡ Ok R)
+pub rows-right : (n : ℕ) (o : Option ℕ) (other : Result Routine Report) (R : Routine) → refusedAt n o other ≡ Ok R → (o ≡ None) × (other ≡ Ok R)
 rows-right n (Some i) other R r = absurd (ok-err (sym r))
 rows-right n None other R r = (refl, r)
 
-finished-right : (k : ℕ) (p : Progress) (R : Routine) → finished k p ≡ Ok R → (complete p ≡ true) × (rowsTested (p .routine) ≡ Ok R)
+pub finished-right : (k : ℕ) (p : Progress) (R : Routine) → finished k p ≡ Ok R → (complete p ≡ true) × (rowsTested (p .routine) ≡ Ok R)
 finished-right k p R r = elim (cases-bool (complete p)) [
     inl c ↦ (c, sym (cond-true (complete p) (rowsTested (p .routine)) (Err (plain 111 (suc k))) c) ∙ r)
   | inr c ↦ absurd (ok-err (sym r ∙ cond-false (complete p) (rowsTested (p .routine)) (Err (plain 111 (suc k))) c))

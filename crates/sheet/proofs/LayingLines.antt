@@ -41,7 +41,7 @@ atoms-push [] c = omega arith
 atoms-push (d ∷ f) c = let e = atoms-push f c in omega arith
 
 -- a row whose list is open takes one atom more
-one-atom : (v : ℕ) (a : Atom) (c : Command) → isOpen (openBehind v c) ≡ true → length (listOf (withAtom a c)) ≡ length (listOf c) + 1
+pub one-atom : (v : ℕ) (a : Atom) (c : Command) → isOpen (openBehind v c) ≡ true → length (listOf (withAtom a c)) ≡ length (listOf c) + 1
 one-atom v a (assign x e) o = absurd (false≢true o)
 one-atom v a (load x y) o = absurd (false≢true o)
 one-atom v a (store x e) o = absurd (false≢true o)

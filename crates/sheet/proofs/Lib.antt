@@ -1,11 +1,14 @@
 pub mod Checks
 pub mod Finishing
 pub mod FirstFault
+pub mod FormedSoFar
 pub mod KindsKnown
 pub mod LaidBack
 pub mod Laying
 pub mod LayingLines
 pub mod LineFaults
+pub mod LineRuns
+pub mod LinesKept
 pub mod LinesTaken
 pub mod Lowest
 pub mod ReadPromises

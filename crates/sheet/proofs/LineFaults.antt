@@ -59,7 +59,7 @@ refused-at p k [] e d r = absurd (ok-err r)
 refused-at p k (l ∷ ls) e d r = by-line p k l ls e d (λ q. refused-at q (suc k) ls e d) (lineMore p l) refl r
 
 -- of lines that are all right, each one is
-first-right : {A : Type 0} (k : ℕ) (o : Result Progress Problem) (f : Progress → Result A Report) (r : A) → onward (atPlace k o) f ≡ Ok r → (q : Progress) × (o ≡ Ok q) × (f q ≡ Ok r)
+pub first-right : {A : Type 0} (k : ℕ) (o : Result Progress Problem) (f : Progress → Result A Report) (r : A) → onward (atPlace k o) f ≡ Ok r → (q : Progress) × (o ≡ Ok q) × (f q ≡ Ok r)
 first-right k (Ok q) f r e = (q, refl, e)
 first-right k (Err w) f r e = absurd (ok-err (sym e))
 
