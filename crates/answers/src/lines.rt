@@ -23,7 +23,10 @@ pub(crate) fn nothing() -> Shown
     ensures count { λ r. ⌜ r .count ≡ 0 ⌝ }
     ensures room { λ r. ⌜ length (r .bytes) ≡ 70 ⌝ }
 {
-    Shown { bytes: [0; WIDTH], count: 0 }
+    Shown {
+        bytes: [0; WIDTH],
+        count: 0,
+    }
 }
 
 pub(crate) fn add(line: &mut Shown, part: &[u8])

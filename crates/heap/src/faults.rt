@@ -46,7 +46,13 @@ impl Fault {
     pub fn at(problem: Problem, place: usize) -> Fault
         ensures { λ r. ⌜ report r ≡ plain (number problem) place ⌝ }
     {
-        Fault { problem, place, kind: 0, routine: 0, row: 0 }
+        Fault {
+            problem,
+            place,
+            kind: 0,
+            routine: 0,
+            row: 0,
+        }
     }
 
     // The number that stands for the problem.

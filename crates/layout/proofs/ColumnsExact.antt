@@ -25,9 +25,9 @@ none-some {A} {x} e = let z : _≡_ {A = ℕ} 0 1 = cc in omega arith
 -- bytes that are not how their value is written hold no number
 pub no-number : (w s : List ℕ) → s ≡ columnOf (valueOf w) → (w ≡ s → ⊥) → None ≡ numberIn w
 no-number w s e ne = elim (cases-bool (sameBytes (columnOf (valueOf w)) w)) [
-    inl t ↦ absurd (ne (sym (e ∙ sameBytes-decides (columnOf (valueOf w)) w .0 t)))
+  | inl t ↦ absurd (ne (sym (e ∙ sameBytes-decides (columnOf (valueOf w)) w .0 t)))
   | inr f ↦ sym (cond-false (ltb (valueOf w) 10000 && sameBytes (columnOf (valueOf w)) w) (Some (valueOf w)) None (and-right (ltb (valueOf w) 10000) (sameBytes (columnOf (valueOf w)) w) f))
-  ]
+]
 
 pub length-column : (n : ℕ) → length (columnOf n) ≡ 4
 length-column n = grind (arith, tells)
@@ -48,15 +48,15 @@ thousands n = sym (ap (λ m. m / 10) (div-div-eq-div-mul n 10 10) ∙ div-div-eq
 -- what is written has the value that was written
 pub value-written : (n : ℕ) → n < 10000 → valueOf (columnOf n) ≡ n
 value-written n h = elim (cases-lt n 10) [
-    inl l ↦ rw (lt-ltb n 10 l) (omega arith)
+  | inl l ↦ rw (lt-ltb n 10 l) (omega arith)
   | inr g ↦ elim (cases-lt n 100) [
-      inl l ↦ rw (le-ltb n 10 g, lt-ltb n 100 l) (omega arith)
+    | inl l ↦ rw (le-ltb n 10 g, lt-ltb n 100 l) (omega arith)
     | inr g2 ↦ elim (cases-lt n 1000) [
-        inl l ↦ let d = three-digits n (n / 100) (hundreds n) l in rw (le-ltb n 10 g, le-ltb n 100 g2, lt-ltb n 1000 l) (omega arith)
+      | inl l ↦ let d = three-digits n (n / 100) (hundreds n) l in rw (le-ltb n 10 g, le-ltb n 100 g2, lt-ltb n 1000 l) (omega arith)
       | inr g3 ↦ let d = four-digits n (n / 100) (n / 1000) (hundreds n) (thousands n) h in rw (le-ltb n 10 g, le-ltb n 100 g2, le-ltb n 1000 g3, lt-ltb n 10000 h) d
-      ]
     ]
   ]
+]
 
 -- the two ways between bytes and numbers
 pub number-of-column : (n : ℕ) → n < 10000 → numberIn (columnOf n) ≡ Some n
@@ -64,16 +64,16 @@ number-of-column n h =
     let w = columnOf n in
     let v = value-written n h in
     cond-true (ltb (valueOf w) 10000 && sameBytes (columnOf (valueOf w)) w) (Some (valueOf w)) None
-      (and-from (ltb (valueOf w) 10000) (sameBytes (columnOf (valueOf w)) w)
-        (lt-ltb (valueOf w) 10000 (subst (λ m. m < 10000) (sym v) h))
-        (sameBytes-decides (columnOf (valueOf w)) w .1 (ap columnOf v)))
+    (and-from (ltb (valueOf w) 10000) (sameBytes (columnOf (valueOf w)) w)
+    (lt-ltb (valueOf w) 10000 (subst (λ m. m < 10000) (sym v) h))
+    (sameBytes-decides (columnOf (valueOf w)) w .1 (ap columnOf v)))
     ∙ ap Some v
 
 pub column-of-number : (w : List ℕ) (n : ℕ) → numberIn w ≡ Some n → (n < 10000) × (w ≡ columnOf n)
 column-of-number w n e = elim (cases-bool (ltb (valueOf w) 10000 && sameBytes (columnOf (valueOf w)) w)) [
-    inl t ↦
+  | inl t ↦
       let b = and-parts (ltb (valueOf w) 10000) (sameBytes (columnOf (valueOf w)) w) t in
       let v : valueOf w ≡ n = some-same (sym (cond-true (ltb (valueOf w) 10000 && sameBytes (columnOf (valueOf w)) w) (Some (valueOf w)) None t) ∙ e) in
       (subst (λ m. m < 10000) v (ltb-true (valueOf w) 10000 (b .0)), sym (sameBytes-decides (columnOf (valueOf w)) w .0 (b .1)) ∙ ap columnOf v)
   | inr f ↦ absurd (none-some (sym (cond-false (ltb (valueOf w) 10000 && sameBytes (columnOf (valueOf w)) w) (Some (valueOf w)) None f) ∙ e))
-  ]
+]

@@ -27,8 +27,8 @@ all-given k a b c d e f F eo ep eq er es et eu = rw (eo, ep, eq, er, es, et, eu)
 abbrev ended : List ℕ → ℕ → ℕ → ℕ → ℕ → ℕ → ℕ → ℕ → Option Numbers
 ended bs k a b c d e f =
     cond (eqb (getD bs 28 0) 10)
-      (Some (record { kind = k; operands = record { first = a; second = b; third = c; fourth = d; fifth = e; sixth = f } }))
-      None
+    (Some (record { kind = k; operands = record { first = a; second = b; third = c; fourth = d; fifth = e; sixth = f } }))
+    None
 
 -- the columns of a line are the numbers
 pub record Columned (bs : List ℕ) (l : Numbers) : Type 0 where
@@ -43,7 +43,7 @@ pub record Columned (bs : List ℕ) (l : Numbers) : Type 0 where
 columned : (bs : List ℕ) (l : Numbers) → Columned bs l → numbersIn bs ≡ cond (eqb (getD bs 28 0) 10) (Some l) None
 columned bs l c =
     all-given (l .kind) (l .operands .first) (l .operands .second) (l .operands .third) (l .operands .fourth) (l .operands .fifth) (l .operands .sixth)
-      (ended bs) (c .kind) (c .first) (c .second) (c .third) (c .fourth) (c .fifth) (c .sixth)
+    (ended bs) (c .kind) (c .first) (c .second) (c .third) (c .fourth) (c .fifth) (c .sixth)
 
 pub numbers-there : (bs : List ℕ) (l : Numbers) → Columned bs l → getD bs 28 0 ≡ 10 → numbersIn bs ≡ Some l
 numbers-there bs l c e = columned bs l c ∙ cond-true (eqb (getD bs 28 0) 10) (Some l) None (eq-eqb (getD bs 28 0) 10 e)
@@ -53,10 +53,10 @@ numbers-absent bs l c ne = sym (columned bs l c ∙ cond-false (eqb (getD bs 28 
 
 -- one column more, where the bytes behind i begin with it
 column-more : (bs : List ℕ) (i n : ℕ) (rest : List ℕ) → n < 10000 → drop i bs ≡ columnOf n ++ rest → (columnAt bs i ≡ Some n) × (drop (i + 4) bs ≡ rest)
-column-more bs i n rest h e =
-    ( ap (λ xs. numberIn (take 4 xs)) e ∙ ap numberIn (take-at (columnOf n) rest 4 (length-column n)) ∙ number-of-column n h
-    , sym (drop-drop 4 i bs) ∙ (ap (drop 4) e ∙ drop-at (columnOf n) rest 4 (length-column n))
-    )
+column-more bs i n rest h e = (
+  ap (λ xs. numberIn (take 4 xs)) e ∙ ap numberIn (take-at (columnOf n) rest 4 (length-column n)) ∙ number-of-column n h,
+  sym (drop-drop 4 i bs) ∙ (ap (drop 4) e ∙ drop-at (columnOf n) rest 4 (length-column n)),
+)
 
 column-less : (bs : List ℕ) (i n : ℕ) → columnAt bs i ≡ Some n → (n < 10000) × (drop i bs ≡ columnOf n ++ drop (i + 4) bs)
 column-less bs i n e =
@@ -74,8 +74,8 @@ reads-written l s =
     let e = column-more bs 20 (l .operands .fifth) _ (s .fifth) (d .1) in
     let f = column-more bs 24 (l .operands .sixth) _ (s .sixth) (e .1) in
     numbers-there bs l
-      (record { kind = k .0; first = a .0; second = b .0; third = c .0; fourth = d .0; fifth = e .0; sixth = f .0 })
-      (sym (getD-drop 28 bs 0 0) ∙ ap (λ xs. getD xs 0 0) (f .1))
+    (record { kind = k .0; first = a .0; second = b .0; third = c .0; fourth = d .0; fifth = e .0; sixth = f .0 })
+    (sym (getD-drop 28 bs 0 0) ∙ ap (λ xs. getD xs 0 0) (f .1))
 
 -- columns of which numbers came are all there
 record There (o p q r s t u : Option ℕ) (F : ℕ → ℕ → ℕ → ℕ → ℕ → ℕ → ℕ → Option Numbers) (y : Numbers) : Type 0 where
@@ -102,7 +102,14 @@ there (Some k) (Some a) (Some b) (Some c) (Some d) (Some e) None F y h = absurd 
 there (Some k) (Some a) (Some b) (Some c) (Some d) (Some e) (Some f) F y h =
     record {
       l = record { kind = k; operands = record { first = a; second = b; third = c; fourth = d; fifth = e; sixth = f } };
-      kind = refl; first = refl; second = refl; third = refl; fourth = refl; fifth = refl; sixth = refl; gives = h
+      kind = refl;
+      first = refl;
+      second = refl;
+      third = refl;
+      fourth = refl;
+      fifth = refl;
+      sixth = refl;
+      gives = h;
     }
 
 some-by-test : {A : Type 0} (b : Bool) (x y : A) → cond b (Some x) None ≡ Some y → (b ≡ true) × (x ≡ y)
@@ -131,10 +138,10 @@ written-reads bs l n r =
     let e = column-less bs 16 (l .operands .fourth) (c .0 .fourth) in
     let f = column-less bs 20 (l .operands .fifth) (c .0 .fifth) in
     let g = column-less bs 24 (l .operands .sixth) (c .0 .sixth) in
-    let h = last-byte bs n (c .1) in
-    ( record { kind = k .0; first = a .0; second = b .0; third = d .0; fourth = e .0; fifth = f .0; sixth = g .0 }
-    , k .1 ∙ ap (λ xs. columnOf (l .kind) ++ xs) (a .1 ∙ ap (λ xs. columnOf (l .operands .first) ++ xs) (b .1
-      ∙ ap (λ xs. columnOf (l .operands .second) ++ xs) (d .1 ∙ ap (λ xs. columnOf (l .operands .third) ++ xs) (e .1
-      ∙ ap (λ xs. columnOf (l .operands .fourth) ++ xs) (f .1 ∙ ap (λ xs. columnOf (l .operands .fifth) ++ xs) (g .1
-      ∙ ap (λ xs. columnOf (l .operands .sixth) ++ xs) h))))))
+    let h = last-byte bs n (c .1) in (
+      record { kind = k .0; first = a .0; second = b .0; third = d .0; fourth = e .0; fifth = f .0; sixth = g .0 },
+      k .1 ∙ ap (λ xs. columnOf (l .kind) ++ xs) (a .1 ∙ ap (λ xs. columnOf (l .operands .first) ++ xs) (b .1
+          ∙ ap (λ xs. columnOf (l .operands .second) ++ xs) (d .1 ∙ ap (λ xs. columnOf (l .operands .third) ++ xs) (e .1
+          ∙ ap (λ xs. columnOf (l .operands .fourth) ++ xs) (f .1 ∙ ap (λ xs. columnOf (l .operands .fifth) ++ xs) (g .1
+          ∙ ap (λ xs. columnOf (l .operands .sixth) ++ xs) h)))))),
     )

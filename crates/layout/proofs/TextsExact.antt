@@ -20,9 +20,9 @@ use Rattle.layout.specs.Texts.{badLength, behind, oneMore, further, firstLines
 pub stays-refused : (t : List ℕ) (e : Report) (n k : ℕ) → firstLines k t ≡ Err e → k ≤ n → firstLines n t ≡ Err e
 stays-refused t e zero k r h = let z : k ≡ 0 = omega arith in subst (λ m. firstLines m t ≡ Err e) z r
 stays-refused t e (suc n) k r h = elim (cases-eq k (suc n)) [
-    inl q ↦ subst (λ m. firstLines m t ≡ Err e) q r
+  | inl q ↦ subst (λ m. firstLines m t ≡ Err e) q r
   | inr ne ↦ ap (λ o. further o n t) (stays-refused t e n k r (omega arith))
-  ]
+]
 
 pub one-line : (t : List ℕ) (k : ℕ) (ls : List Numbers) (l : Numbers) → firstLines k t ≡ Ok ls → numbersIn (behind t k) ≡ Some l → firstLines (suc k) t ≡ Ok (ls ++ l ∷ [])
 one-line t k ls l r s = ap (λ o. further o k t) r ∙ ap (oneMore ls k) s

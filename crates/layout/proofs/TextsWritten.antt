@@ -34,8 +34,8 @@ column-longer n m rest e = length-append (columnOf n) rest ∙ (ap (λ k. k + le
 pub length-written : (l : Numbers) → length (written l) ≡ 29
 length-written l =
     column-longer (l .kind) 25 _ (column-longer (l .operands .first) 21 _ (column-longer (l .operands .second) 17 _
-      (column-longer (l .operands .third) 13 _ (column-longer (l .operands .fourth) 9 _ (column-longer (l .operands .fifth) 5 _
-      (column-longer (l .operands .sixth) 1 _ refl))))))
+    (column-longer (l .operands .third) 13 _ (column-longer (l .operands .fourth) 9 _ (column-longer (l .operands .fifth) 5 _
+    (column-longer (l .operands .sixth) 1 _ refl))))))
 
 pub length-joined : (ls : List Numbers) → length (joined written ls) ≡ length ls * 29
 length-joined [] = refl
@@ -64,7 +64,7 @@ first-read : (ls : List Numbers) (d : Numbers) (k : ℕ) → All Short ls → k 
 first-read ls d zero a h = refl
 first-read ls d (suc k) a h =
     one-line (joined written ls) k (take k ls) (getD ls k d) (first-read ls d k a (omega arith))
-      (ap numbersIn (behind-written ls k d h) ∙ reads-written (getD ls k d) (short-at ls k d a h))
+    (ap numbersIn (behind-written ls k d h) ∙ reads-written (getD ls k d) (short-at ls k d a h))
     ∙ ap Ok (sym (take-suc ls k d h))
 
 blank : Numbers
@@ -130,7 +130,7 @@ front-more t n ls l f h r =
     record {
       long = omega arith;
       short = all-more ls l (f .short) (w .0);
-      text = ap (λ k. take k t) m ∙ (take-add (n * 29) 29 t ∙ (ap (λ xs. xs ++ behind t n) (f .text) ∙ (ap (λ xs. joined written ls ++ xs) (w .1) ∙ joined-more written [] ls l)))
+      text = ap (λ k. take k t) m ∙ (take-add (n * 29) 29 t ∙ (ap (λ xs. xs ++ behind t n) (f .text) ∙ (ap (λ xs. joined written ls ++ xs) (w .1) ∙ joined-more written [] ls l)));
     }
 
 front : (t : List ℕ) (n : ℕ) (ls : List Numbers) → n * 29 ≤ length t → firstLines n t ≡ Ok ls → Front t n ls
@@ -141,7 +141,7 @@ front t (suc n) ls h r =
 
 pub texts-written : Texts-written
 texts-written t ls r = elim (cases-bool (badLength (length t))) [
-    inl b ↦ absurd (ok-err (sym r ∙ bad-length t b))
+  | inl b ↦ absurd (ok-err (sym r ∙ bad-length t b))
   | inr g ↦
       let u : (0 < length t) × (length t ≡ length t / 29 * 29) × (length t ≤ 3567) = grind (arith, tells) in
       let f = front t (length t / 29) ls (omega arith) (sym (good-length t g) ∙ r) in
@@ -150,31 +150,31 @@ texts-written t ls r = elim (cases-bool (badLength (length t))) [
         short = f .short;
         text = sym (take-all (length t / 29 * 29) t (omega arith)) ∙ f .text;
         some-line = omega arith;
-        few = omega arith
+        few = omega arith;
       }
-  ]
+]
 
 fine : (t : List ℕ) (n : ℕ) (ls : List Numbers) → firstLines n t ≡ Ok ls → (i : ℕ) → i < n → (l : Numbers) × (numbersIn (behind t i) ≡ Some l)
 fine t zero ls r i h = absurd (omega arith)
 fine t (suc n) ls r i h =
     let s = stepped (firstLines n t) ls n t r in
     elim (cases-eq i n) [
-        inl e ↦ (s .last, ap (λ k. numbersIn (behind t k)) e ∙ s .last-is)
+      | inl e ↦ (s .last, ap (λ k. numbersIn (behind t k)) e ∙ s .last-is)
       | inr ne ↦ fine t n (s .ahead) (s .ahead-is) i (omega arith)
-      ]
+    ]
 
 first-fault : (t : List ℕ) (n : ℕ) (e : Report) → badLength (length t) ≡ false → n * 29 ≤ length t → firstLines n t ≡ Err e → BadLine t e
 first-fault t zero e g h r = absurd (ok-err r)
 first-fault t (suc n) e g h r = elim (refused-step (firstLines n t) n t e r) [
-    inl q ↦ first-fault t n e g (omega arith) q
+  | inl q ↦ first-fault t n e g (omega arith) q
   | inr (ms, o, b, f) ↦ record { j = n; good-length = g; inside = h; fault = f; broken = b; fine-ahead = fine t n ms o }
-  ]
+]
 
 pub texts-refused : Texts-refused
 texts-refused t e r = elim (cases-bool (badLength (length t))) [
-    inl b ↦ inl (record { bad-length = b; fault = let f = sym (bad-length t b) ∙ r in cc })
+  | inl b ↦ inl (record { bad-length = b; fault = let f = sym (bad-length t b) ∙ r in cc })
   | inr g ↦ inr (first-fault t (length t / 29) e g (omega arith) (sym (good-length t g) ∙ r))
-  ]
+]
 
 pub broken-line-is-none-written : Broken-line-is-none-written
 broken-line-is-none-written bs n r l s e = none-some (sym r ∙ (ap numbersIn e ∙ reads-written l s))

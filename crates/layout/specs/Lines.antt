@@ -35,8 +35,8 @@ numbersIn bs =
     given (columnAt bs 0) (λ k. given (columnAt bs 4) (λ a. given (columnAt bs 8) (λ b. given (columnAt bs 12) (λ c.
     given (columnAt bs 16) (λ d. given (columnAt bs 20) (λ e. given (columnAt bs 24) (λ f.
     cond (eqb (getD bs 28 0) 10)
-      (Some (record { kind = k; operands = record { first = a; second = b; third = c; fourth = d; fifth = e; sixth = f } }))
-      None)))))))
+    (Some (record { kind = k; operands = record { first = a; second = b; third = c; fourth = d; fifth = e; sixth = f } }))
+    None)))))))
 
 -- each number has at most four digits
 pub record Short (l : Numbers) : Type 0 where

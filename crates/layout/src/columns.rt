@@ -38,7 +38,10 @@ fn value(word: &[u8]) -> u32
     requires { ⌜ length (now word) ≡ 4 ⌝ }
     ensures { λ r. ⌜ r ≡ valueOf (now (word .entry)) ⌝ }
 {
-    digit_value(word[0]) * 1000 + digit_value(word[1]) * 100 + digit_value(word[2]) * 10 + digit_value(word[3])
+    digit_value(word[0]) * 1000
+        + digit_value(word[1]) * 100
+        + digit_value(word[2]) * 10
+        + digit_value(word[3])
 }
 
 // The number that a column holds: the one that is written as these bytes.
@@ -51,5 +54,9 @@ pub(crate) fn number(word: &[u8]) -> Option<u16>
         return None;
     }
     let written = column(n as u16);
-    if word == written.as_slice() { Some(n as u16) } else { None }
+    if word == written.as_slice() {
+        Some(n as u16)
+    } else {
+        None
+    }
 }

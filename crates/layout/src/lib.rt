@@ -4,8 +4,8 @@ mod lines;
 mod texts;
 
 pub use columns::column;
-pub use lines::line;
 pub use lines::Numbers;
 pub use lines::Six;
+pub use lines::line;
 pub use texts::Scanned;
 pub use texts::scan;

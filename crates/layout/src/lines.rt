@@ -51,7 +51,17 @@ pub(crate) fn parse(bytes: &[u8]) -> Option<Numbers>
     let fifth = number(&bytes[20..24])?;
     let sixth = number(&bytes[24..28])?;
     if bytes[28] == 10 {
-        Some(Numbers { kind, operands: Six { first, second, third, fourth, fifth, sixth } })
+        Some(Numbers {
+            kind,
+            operands: Six {
+                first,
+                second,
+                third,
+                fourth,
+                fifth,
+                sixth,
+            },
+        })
     } else {
         None
     }

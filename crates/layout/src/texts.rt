@@ -33,7 +33,17 @@ pub fn scan(text: &[u8]) -> Result<Scanned, Fault>
         return Err(Fault::at(Problem::TextLength, 0));
     }
     let count = text.len() / LINE;
-    let blank = Numbers { kind: 0, operands: Six { first: 0, second: 0, third: 0, fourth: 0, fifth: 0, sixth: 0 } };
+    let blank = Numbers {
+        kind: 0,
+        operands: Six {
+            first: 0,
+            second: 0,
+            third: 0,
+            fourth: 0,
+            fifth: 0,
+            sixth: 0,
+        },
+    };
     let mut lines = [blank; LINES];
     for k in 0..count {
         let Some(numbers) = parse(&text[k * LINE..k * LINE + LINE]) else {

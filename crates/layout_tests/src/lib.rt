@@ -97,12 +97,30 @@ mod tests {
 
     #[test]
     fn broken_lines() -> Result<(), Fail> {
-        check_eq(refusal(b"   1   0   0   0   0   0   0\n   2  01   0   0   0   0   0\n"), (102, 2)).note("a leading zero")?;
-        check_eq(refusal(b"   1   0   0   0   0   0   0\n   2       0   0   0   0   0\n"), (102, 2)).note("four blanks")?;
-        check_eq(refusal(b"   1   0   0   0   0   0   0\n   2 \t 1   0   0   0   0   0\n"), (102, 2)).note("a tab")?;
-        check_eq(refusal(b"   1   0   0   0   0   0   0\n   2  +1   0   0   0   0   0\n"), (102, 2)).note("a sign")?;
-        check_eq(refusal(b"   1   0   0   0   0   0   0\n   2   \xB1   0   0   0   0   0\n"), (102, 2)).note("a byte above 127")?;
-        check_eq(refusal(b"   1   0   0   0   0   0   0\n   2   0   0   0   0   0   0\r"), (102, 2)).note("a carriage return")
+        check_eq(
+            refusal(b"   1   0   0   0   0   0   0\n   2  01   0   0   0   0   0\n"),
+            (102, 2),
+        ).note("a leading zero")?;
+        check_eq(
+            refusal(b"   1   0   0   0   0   0   0\n   2       0   0   0   0   0\n"),
+            (102, 2),
+        ).note("four blanks")?;
+        check_eq(
+            refusal(b"   1   0   0   0   0   0   0\n   2 \t 1   0   0   0   0   0\n"),
+            (102, 2),
+        ).note("a tab")?;
+        check_eq(
+            refusal(b"   1   0   0   0   0   0   0\n   2  +1   0   0   0   0   0\n"),
+            (102, 2),
+        ).note("a sign")?;
+        check_eq(
+            refusal(b"   1   0   0   0   0   0   0\n   2   \xB1   0   0   0   0   0\n"),
+            (102, 2),
+        ).note("a byte above 127")?;
+        check_eq(
+            refusal(b"   1   0   0   0   0   0   0\n   2   0   0   0   0   0   0\r"),
+            (102, 2),
+        ).note("a carriage return")
     }
 
     #[test]

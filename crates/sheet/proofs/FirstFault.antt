@@ -22,10 +22,10 @@ use Rattle.layout.proofs.ColumnsExact.{none-some}
 use Rattle.layout.proofs.TextsExact.{stays-refused, broken-line as refused-behind, good-length, bad-length}
 use Rattle.layout.proofs.TextsWritten.{texts-refused}
 use Rattle.sheet.specs.Routines.{Routine}
-use Rattle.sheet.specs.Flow.{misplaced, Heavy}
+use Rattle.sheet.specs.Flow.{misplaced, Heavy, InPlace}
 use Rattle.sheet.specs.Reading.{Progress, start, lineMore, onward, allLines, complete, firstMisplaced, heavyPiece, refusedAt, rowsTested, finished, reading}
 use Rattle.sheet.specs.Laws.{Judged, Whole, Condition, wrong-length, broken-line, no-kind, not-due, missing, bad-operand, too-many, wrong-place, too-heavy, turn, Ahead, First, Refusals-first}
-use Rattle.sheet.proofs.RowPlaces.{InPlace, misplaced-none, misplaced-first}
+use Rattle.sheet.proofs.RowPlaces.{misplaced-none, misplaced-first}
 use Rattle.sheet.proofs.WeightsExact.{heavy-none, heavy-first}
 use Rattle.sheet.proofs.LineFaults.{ok-err, same-ok, RefusedAt, refused-at, none-wrong, LineFails, unknown-fails, not-due-fails, operand-fails, count-fails, line-condition}
 
@@ -87,9 +87,9 @@ read-not-unread t ls m q r (by-layout k n p b h x) =
 
 found : (t : List ℕ) (ls : List Numbers) (m q : ℕ) → linesOf t ≡ Ok ls → Condition t m q → Found t ls m q
 found t ls m q r c = elim (sorted t m q c) [
-    inl u ↦ absurd (read-not-unread t ls m q r u)
+  | inl u ↦ absurd (read-not-unread t ls m q r u)
   | inr (ms, s, f) ↦ subst (λ xs. Found t xs m q) (same-ok s r) f
-  ]
+]
 
 -- an order by turns
 ordered : {X : Type 0} (a b : ℕ) → ((a < b) ⊎ ((a ≡ b) × X)) → a ≤ b
@@ -106,9 +106,9 @@ not-later m q n p c e a h = let o = ordered (turn m) (turn n) a in let f : turn 
 
 not-itself : (m q n p : ℕ) → m ≡ n → q ≡ p → Ahead m q n p → ⊥
 not-itself m q n p e f a = elim (same-turn (turn m) (turn n) (ap turn e) a) [
-    inl h ↦ omega arith
+  | inl h ↦ omega arith
   | inr h ↦ let l = h .1 in omega arith
-  ]
+]
 
 -- the length, and a line's layout
 found-turn : (t : List ℕ) (ls : List Numbers) (m q : ℕ) → Found t ls m q → 2 ≤ turn m
@@ -119,27 +119,27 @@ found-turn t ls m q (in-pieces p e a h) = let z : turn m ≡ 4 = ap turn e in om
 
 not-before-length : (t : List ℕ) (m q : ℕ) → Ahead m q 101 0 → Sorted t m q → ⊥
 not-before-length t m q a (inl (by-length e b)) = elim (same-turn (turn m) 0 (ap turn e) a) [
-    inl h ↦ omega arith
+  | inl h ↦ omega arith
   | inr h ↦ let l = h .1 in omega arith
-  ]
+]
 not-before-length t m q a (inl (by-layout k e p b h x)) = not-later m q 101 0 102 e a (omega arith)
 not-before-length t m q a (inr (ls, r, f)) = let o = ordered (turn m) 0 a in let g = found-turn t ls m q f in omega (arith, o, g)
 
 not-before-line : (t : List ℕ) (e : Report) (b : BadLine t e) (m q : ℕ) → Ahead m q 102 (suc (b .j)) → Sorted t m q → ⊥
 not-before-line t e b m q a (inl (by-length n x)) = both-ways (badLength (length t)) (b .good-length) x
 not-before-line t e b m q a (inl (by-layout k n p g h x)) = elim (same-turn (turn m) 1 (ap turn n) a) [
-    inl l ↦
+  | inl l ↦
       let f = b .fine-ahead k (omega arith) in
       none-some (sym x ∙ f .1)
   | inr l ↦ let u = l .1 in omega arith
-  ]
+]
 not-before-line t e b m q a (inr (ls, r, f)) = let o = ordered (turn m) 1 a in let g = found-turn t ls m q f in omega (arith, o, g)
 
 text-first : (t : List ℕ) (e : Report) → linesOf t ≡ Err e → First t e
 text-first t e r = elim (texts-refused t e r) [
-    inl b ↦ record { number = 101; place = 0; fault = b .fault; holds = wrong-length (b .bad-length); none-ahead = λ m q a c. not-before-length t m q a (sorted t m q c) }
+  | inl b ↦ record { number = 101; place = 0; fault = b .fault; holds = wrong-length (b .bad-length); none-ahead = λ m q a c. not-before-length t m q a (sorted t m q c) }
   | inr b ↦ record { number = 102; place = suc (b .j); fault = b .fault; holds = broken-line (b .good-length) (b .inside) (b .broken); none-ahead = λ m q a c. not-before-line t e b m q a (sorted t m q c) }
-  ]
+]
 
 -- a line
 earlier-line : (ls : List Numbers) (j : ℕ) (r p : Progress) (k : ℕ) (l : Numbers) (w : Problem) → allLines start 1 (take j ls) ≡ Ok r → j < length ls → k < j → allLines start 1 (take k ls) ≡ Ok p → l ≡ getD ls k l → lineMore p l ≡ Err w → ⊥
@@ -159,13 +159,13 @@ same-line ls j k q p d l v w e h a r s g f =
 module _ (t : List ℕ) (ls : List Numbers) (e : Report) (d : Numbers) (s : RefusedAt start 1 ls e d) (two : turn (number (s .problem)) ≡ 2) where
   not-before-refused : allLines start 1 ls ≡ Err e → (m q : ℕ) → Ahead m q (number (s .problem)) (suc (s .line)) → Found t ls m q → ⊥
   not-before-refused r m q a (in-line k p l n tm h y g (w, f, u)) = elim (same-turn (turn m) (turn (number (s .problem))) (tm ∙ sym two) a) [
-      inl i ↦ earlier-line ls (s .line) (s .ahead) p k l w (s .says) (s .inside) (omega arith) y g f
+    | inl i ↦ earlier-line ls (s .line) (s .ahead) p k l w (s .says) (s .inside) (omega arith) y g f
     | inr i ↦
         let c = i .0 in
         let x = i .1 in
         let v = same-line ls (s .line) k (s .ahead) p d l (s .problem) w (omega arith) h (s .says) (s .refused) y g f in
         omega (arith, v, u, x)
-    ]
+  ]
   not-before-refused r m q a (at-end p n f y c) = ok-err (sym y ∙ r)
   not-before-refused r m q a (in-rows p n y h l b) = ok-err (sym y ∙ r)
   not-before-refused r m q a (in-pieces p n y h) = ok-err (sym y ∙ r)
@@ -178,8 +178,11 @@ line-first t ls e r a =
     let c = line-condition t (s .line) (s .ahead) g (s .problem) j (s .refused) in
     let n : 1 + s .line ≡ suc (s .line) = omega arith in
     record {
-      number = number (s .problem); place = suc (s .line); fault = s .fault ∙ ap (plain (number (s .problem))) n; holds = c .0;
-      none-ahead = λ m q h x. not-before-refused t ls e blank s (c .1) a m q h (found t ls m q r x)
+      number = number (s .problem);
+      place = suc (s .line);
+      fault = s .fault ∙ ap (plain (number (s .problem))) n;
+      holds = c .0;
+      none-ahead = λ m q h x. not-before-refused t ls e blank s (c .1) a m q h (found t ls m q r x);
     }
 
 -- rows that are missing, in the wrong place, or heavy together
@@ -202,9 +205,9 @@ module _ (t : List ℕ) (ls : List Numbers) (p : Progress) (read : linesOf t ≡
     not-before-row i m q b a (in-line k r l n two h y g (w, f, u)) = none-wrong p r ls k l w says h y g f
     not-before-row i m q b a (at-end r e f y c) = incomplete r y c
     not-before-row i m q b a (in-rows r e y h l x) = elim (same-turn (turn m) 3 (ap turn e) a) [
-        inl g ↦ both-ways (misplaced (p .routine .rows) q) (b q h g) (subst (λ u. misplaced (u .routine .rows) q ≡ true) (same-ok y says) x)
+      | inl g ↦ both-ways (misplaced (p .routine .rows) q) (b q h g) (subst (λ u. misplaced (u .routine .rows) q ≡ true) (same-ok y says) x)
       | inr g ↦ let z = g .1 in omega arith
-      ]
+    ]
     not-before-row i m q b a (in-pieces r e y h) = not-later m q 114 i 115 e a (omega arith)
 
     -- where all rows are in place, only a piece can be wrong
@@ -217,9 +220,9 @@ module _ (t : List ℕ) (ls : List Numbers) (p : Progress) (read : linesOf t ≡
 
     not-before-piece : (i m q : ℕ) → ((j : ℕ) → j < i → Heavy (p .routine .rows) j → ⊥) → Ahead m q 115 i → (m ≡ 115) × Heavy (p .routine .rows) q → ⊥
     not-before-piece i m q b a (e, h) = elim (same-turn (turn m) 4 (ap turn e) a) [
-        inl g ↦ b q g h
+      | inl g ↦ b q g h
       | inr g ↦ let z = g .1 in omega arith
-      ]
+    ]
 
     the-whole : Whole t (p .routine)
     the-whole = record { lines = ls; read = read; progress = p; says = says; full = whole; routine = refl }
@@ -237,28 +240,28 @@ module _ (t : List ℕ) (ls : List Numbers) (p : Progress) (read : linesOf t ≡
 
     rows-first : (e : Report) → rowsTested (p .routine) ≡ Err e → First t e
     rows-first e r = elim (row-refused 114 (firstMisplaced (p .routine .rows) 1 (p .routine .rows)) _ e r) [
-        inl (i, s, f) ↦ row-first e i s f
+      | inl (i, s, f) ↦ row-first e i s f
       | inr (n, x) ↦ elim (row-refused 115 (heavyPiece (p .routine .rows)) _ e x) [
-          inl (i, s, f) ↦ piece-first e i n s f
+        | inl (i, s, f) ↦ piece-first e i n s f
         | inr (o, y) ↦ absurd (ok-err y)
-        ]
       ]
+    ]
 
   end-first : (e : Report) → finished (length ls) p ≡ Err e → First t e
   end-first e r = elim (cases-bool (complete p)) [
-      inl c ↦ rows-first c e (sym (cond-true (complete p) (rowsTested (p .routine)) (Err (plain 111 (suc (length ls)))) c) ∙ r)
+    | inl c ↦ rows-first c e (sym (cond-true (complete p) (rowsTested (p .routine)) (Err (plain 111 (suc (length ls)))) c) ∙ r)
     | inr c ↦ missing-first e c (same-err (sym r ∙ cond-false (complete p) (rowsTested (p .routine)) (Err (plain 111 (suc (length ls)))) c))
-    ]
+  ]
 
 pub refusals-first : Refusals-first
 unfolding reading
 refusals-first t e r = elim (refused-where (linesOf t) (λ ls. onward (allLines start 1 ls) (λ p. finished (length ls) p)) e r) [
-    inl s ↦ text-first t e s
+  | inl s ↦ text-first t e s
   | inr (ls, s, a) ↦ elim (refused-where (allLines start 1 ls) (λ p. finished (length ls) p) e a) [
-      inl b ↦ line-first t ls e s b
+    | inl b ↦ line-first t ls e s b
     | inr (p, b, c) ↦ end-first t ls p s b e c
-    ]
   ]
+]
 
 -- a text that reads meets no condition
 pub right-where : {A B E : Type 0} (o : Result A E) (f : A → Result B E) (y : B) → onward o f ≡ Ok y → (x : A) × (o ≡ Ok x) × (f x ≡ Ok y)
@@ -271,9 +274,9 @@ rows-right n None other R r = (refl, r)
 
 pub finished-right : (k : ℕ) (p : Progress) (R : Routine) → finished k p ≡ Ok R → (complete p ≡ true) × (rowsTested (p .routine) ≡ Ok R)
 finished-right k p R r = elim (cases-bool (complete p)) [
-    inl c ↦ (c, sym (cond-true (complete p) (rowsTested (p .routine)) (Err (plain 111 (suc k))) c) ∙ r)
+  | inl c ↦ (c, sym (cond-true (complete p) (rowsTested (p .routine)) (Err (plain 111 (suc k))) c) ∙ r)
   | inr c ↦ absurd (ok-err (sym r ∙ cond-false (complete p) (rowsTested (p .routine)) (Err (plain 111 (suc k))) c))
-  ]
+]
 
 none-found : (t : List ℕ) (ls : List Numbers) (p : Progress) (R : Routine) → linesOf t ≡ Ok ls → allLines start 1 ls ≡ Ok p → finished (length ls) p ≡ Ok R → (m q : ℕ) → Found t ls m q → ⊥
 none-found t ls p R read says r m q f =

@@ -96,12 +96,14 @@ module _ (p : Progress) (a : Atom) where
   row-more (free x) o f r h = absurd (false≢true o)
   row-more (jump x) o f r h = absurd (false≢true o)
   row-more (branch x y z) o f r h = absurd (false≢true o)
-  row-more (cut l) o f r h =
-      (record { columns = r .columns; list = list-more (scopeIn p (p .routine .variables) 0) l a (r .list) (leb-false 8 (length l) f) h },
-       ap (λ m. lineAs Cut (six 0 0 0 0 0 0) ∷ m) (map-push atomLine l a))
-  row-more (call x q y z s t l) o f r h =
-      (record { columns = r .columns; list = list-more (scopeIn p (p .routine .variables) x) l a (r .list) (leb-false 8 (length l) f) h },
-       ap (λ m. lineAs Call (six x q y z s t) ∷ m) (map-push atomLine l a))
+  row-more (cut l) o f r h = (
+    record { columns = r .columns; list = list-more (scopeIn p (p .routine .variables) 0) l a (r .list) (leb-false 8 (length l) f) h },
+    ap (λ m. lineAs Cut (six 0 0 0 0 0 0) ∷ m) (map-push atomLine l a),
+  )
+  row-more (call x q y z s t l) o f r h = (
+    record { columns = r .columns; list = list-more (scopeIn p (p .routine .variables) x) l a (r .list) (leb-false 8 (length l) f) h },
+    ap (λ m. lineAs Call (six x q y z s t) ∷ m) (map-push atomLine l a),
+  )
   row-more done o f r h = absurd (false≢true o)
 
 all-but-last : {A : Type 0} (P : A → Type 0) (xs : List A) (y : A) → All P (xs ++ y ∷ []) → All P xs × P y
@@ -118,8 +120,8 @@ last-after A B m l = simp (append-assoc, append-nil)
 rows-lines : (n : ℕ) (R : Routine) (rows more : List Command) (l : Numbers) → joined commandLines more ≡ joined commandLines rows ++ l ∷ [] → linesAt Rows n (withRows R more) ≡ linesAt Rows n (withRows R rows) ++ l ∷ []
 rows-lines n R rows more l e =
     ap (λ m. headLine R n ∷ listLine Before ∷ m)
-      (ap (λ m. map atomLine (R .before) ++ (listLine After ∷ (map atomLine (R .after) ++ m))) e
-      ∙ behind-all (map atomLine (R .before)) (map atomLine (R .after)) (joined commandLines rows) (listLine After) l)
+    (ap (λ m. map atomLine (R .before) ++ (listLine After ∷ (map atomLine (R .after) ++ m))) e
+    ∙ behind-all (map atomLine (R .before)) (map atomLine (R .after)) (joined commandLines rows) (listLine After) l)
 
 row-longer : (front : List Command) (c d : Command) (l : Numbers) → commandLines d ≡ commandLines c ++ l ∷ [] → joined commandLines (front ++ d ∷ []) ≡ joined commandLines (front ++ c ∷ []) ++ l ∷ []
 row-longer front c d l e =
@@ -132,8 +134,8 @@ row-longer front c d l e =
 after-lines : (n : ℕ) (R : Routine) (a : Atom) → linesAt Rows n (withAfter (withRows R []) (R .after ++ a ∷ [])) ≡ linesAt Rows n (withRows R []) ++ atomLine a ∷ []
 after-lines n R a =
     ap (λ m. headLine R n ∷ listLine Before ∷ m)
-      (ap (λ m. map atomLine (R .before) ++ (listLine After ∷ (m ++ []))) (map-push atomLine (R .after) a)
-      ∙ last-after (map atomLine (R .before)) (map atomLine (R .after)) (listLine After) (atomLine a))
+    (ap (λ m. map atomLine (R .before) ++ (listLine After ∷ (m ++ []))) (map-push atomLine (R .after) a)
+    ∙ last-after (map atomLine (R .before)) (map atomLine (R .after)) (listLine After) (atomLine a))
 
 -- an atom behind the rows
 module _ (n : ℕ) (R : Routine) (a : Atom) where
@@ -161,14 +163,16 @@ module _ (n : ℕ) (R : Routine) (a : Atom) where
       let w = length-push front (withAtom a c) in
       let k = s .begun .1 in
       subst (λ more. Grown (linesAt Rows n (withRows R rows)) (atomLine a) Rows n (withRows R more)) (sym (at-last (withAtom a) front c))
-        (record {
-          sound = record {
-            begun = (s .begun .0, omega arith); before-list = s .before-list; after-list = s .after-list;
-            row-columns = all-push (RowFits (R .variables) (R .ghosts) n) front (withAtom a c) (b .0) (m .0);
-            few-atoms = omega arith
-          };
-          lines = rows-lines n R rows (front ++ withAtom a c ∷ []) (atomLine a) (row-longer front c (withAtom a c) (atomLine a) (m .1))
-        })
+      (record {
+        sound = record {
+          begun = (s .begun .0, omega arith);
+          before-list = s .before-list;
+          after-list = s .after-list;
+          row-columns = all-push (RowFits (R .variables) (R .ghosts) n) front (withAtom a c) (b .0) (m .0);
+          few-atoms = omega arith;
+        };
+        lines = rows-lines n R rows (front ++ withAtom a c ∷ []) (atomLine a) (row-longer front c (withAtom a c) (atomLine a) (m .1));
+      })
 
   in-none : AtomMore [] (withAfter (withRows R []) (R .after ++ a ∷ []))
   in-none s o f t h =
@@ -176,9 +180,13 @@ module _ (n : ℕ) (R : Routine) (a : Atom) where
       let u = length-push (R .after) a in
       record {
         sound = record {
-          begun = s .begun; before-list = s .before-list; after-list = list-more (scopeIn (at Rows n (withRows R [])) 1 0) (R .after) a (s .after-list) e h; row-columns = tt; few-atoms = omega arith
+          begun = s .begun;
+          before-list = s .before-list;
+          after-list = list-more (scopeIn (at Rows n (withRows R [])) 1 0) (R .after) a (s .after-list) e h;
+          row-columns = tt;
+          few-atoms = omega arith;
         };
-        lines = after-lines n R a
+        lines = after-lines n R a;
       }
 
   in-rows : (rows : List Command) → AtomMore rows (atomInRows (withRows R rows) a rows)
@@ -195,10 +203,12 @@ head-line Start n R v x u h =
     record {
       sound = record {
         begun = (subst (λ w. fits (headScope (v .second)) (classesOf Head) w ≡ true) e h, b .0, b .1, b .2);
-        before-list = no-list _ (R .before) (b .0); after-list = no-list _ (R .after) (b .1);
-        row-columns = subst (All (RowFits (v .second) (v .fourth) (v .fifth))) (sym (b .2)) tt; few-atoms = x .few-atoms
+        before-list = no-list _ (R .before) (b .0);
+        after-list = no-list _ (R .after) (b .1);
+        row-columns = subst (All (RowFits (v .second) (v .fourth) (v .fifth))) (sym (b .2)) tt;
+        few-atoms = x .few-atoms;
       };
-      lines = ap (λ w. lineAs Head w ∷ []) (sym e)
+      lines = ap (λ w. lineAs Head w ∷ []) (sym e);
     }
 head-line Headed n R v x u h = absurd (false≢true u)
 head-line BeforeList n R v x u h = absurd (false≢true u)
@@ -211,7 +221,7 @@ before-line Headed n R v x u h =
     let b = x .begun in
     record {
       sound = record { begun = (b .0, b .2, b .3); before-list = x .before-list; after-list = x .after-list; row-columns = x .row-columns; few-atoms = x .few-atoms };
-      lines = ap (λ l. headLine R n ∷ listLine Before ∷ map atomLine l) (b .1) ∙ ap (λ w. headLine R n ∷ lineAs Before w ∷ []) (sym e)
+      lines = ap (λ l. headLine R n ∷ listLine Before ∷ map atomLine l) (b .1) ∙ ap (λ w. headLine R n ∷ lineAs Before w ∷ []) (sym e);
     }
 before-line BeforeList n R v x u h = absurd (false≢true u)
 before-line Rows n R v x u h = absurd (false≢true u)
@@ -226,9 +236,9 @@ after-line BeforeList n R v x u h =
     record {
       sound = record { begun = (b .0, omega arith); before-list = x .before-list; after-list = x .after-list; row-columns = x .row-columns; few-atoms = x .few-atoms };
       lines =
-        ap (λ l. headLine R n ∷ listLine Before ∷ (map atomLine (R .before) ++ (listLine After ∷ (map atomLine l ++ joined commandLines (R .rows))))) (b .1)
-        ∙ (ap (λ l. headLine R n ∷ listLine Before ∷ (map atomLine (R .before) ++ (listLine After ∷ joined commandLines l))) (b .2)
-        ∙ ap (λ w. headLine R n ∷ listLine Before ∷ (map atomLine (R .before) ++ (lineAs After w ∷ []))) (sym e))
+          ap (λ l. headLine R n ∷ listLine Before ∷ (map atomLine (R .before) ++ (listLine After ∷ (map atomLine l ++ joined commandLines (R .rows))))) (b .1)
+          ∙ (ap (λ l. headLine R n ∷ listLine Before ∷ (map atomLine (R .before) ++ (listLine After ∷ joined commandLines l))) (b .2)
+          ∙ ap (λ w. headLine R n ∷ listLine Before ∷ (map atomLine (R .before) ++ (lineAs After w ∷ []))) (sym e));
     }
 after-line Rows n R v x u h = absurd (false≢true u)
 
@@ -240,7 +250,7 @@ atom-at BeforeList n R a x u h f t =
     let z = length-push (R .before) a in
     record {
       sound = record { begun = x .begun; before-list = list-more (scopeIn (at BeforeList n R) (R .arguments) 0) (R .before) a (x .before-list) e h; after-list = x .after-list; row-columns = x .row-columns; few-atoms = omega arith };
-      lines = ap (λ l. headLine R n ∷ listLine Before ∷ l) (map-push atomLine (R .before) a)
+      lines = ap (λ l. headLine R n ∷ listLine Before ∷ l) (map-push atomLine (R .before) a);
     }
 atom-at Rows n R a x u h f t = in-rows n R a (R .rows) x u f t h
 
@@ -249,7 +259,7 @@ atom-line : (s : Stage) (n : ℕ) (R : Routine) (a : Atom) (v : Six ℕ) → v �
 atom-line s n R a v e x u h o =
     let f = or-parts (full (openAt s R)) (leb 80 (total R)) o in
     subst (λ w. Grown (linesAt s n R) (lineAs (atomKind a) w) s n (atomInto s R a)) (sym e)
-      (atom-at s n R a x u (subst (λ w. fits (scopeOpen (at s n R) (openAt s R)) (classesOf (atomKind a)) w ≡ true) e h) (f .0) (leb-false 80 (total R) (f .1)))
+    (atom-at s n R a x u (subst (λ w. fits (scopeOpen (at s n R) (openAt s R)) (classesOf (atomKind a)) w ≡ true) e h) (f .0) (leb-false 80 (total R) (f .1)))
 
 row-at : (s : Stage) (n : ℕ) (R : Routine) (c : Command) → listOf c ≡ [] → Sound s n R → (atRows s && ltb (length (R .rows)) n) ≡ true → fits (scopeIn (at s n R) (R .variables) (commandColumns c .first)) (classesOf (commandKind c)) (commandColumns c) ≡ true
     → Grown (linesAt s n R) (lineAs (commandKind c) (commandColumns c)) s n (withRows R (R .rows ++ c ∷ []))
@@ -264,19 +274,21 @@ row-at Rows n R c e x u h =
     let t = x .few-atoms in
     record {
       sound = record {
-        begun = (x .begun .0, omega arith); before-list = x .before-list; after-list = x .after-list;
+        begun = (x .begun .0, omega arith);
+        before-list = x .before-list;
+        after-list = x .after-list;
         row-columns = all-push (RowFits (R .variables) (R .ghosts) n) (R .rows) c (x .row-columns) (record { columns = h; list = no-list _ (listOf c) e });
-        few-atoms = omega arith
+        few-atoms = omega arith;
       };
       lines = rows-lines n R (R .rows) (R .rows ++ c ∷ []) (lineAs (commandKind c) (commandColumns c))
-        (sym (joined-more commandLines [] (R .rows) c) ∙ ap (λ m. joined commandLines (R .rows) ++ (lineAs (commandKind c) (commandColumns c) ∷ map atomLine m)) e)
+          (sym (joined-more commandLines [] (R .rows) c) ∙ ap (λ m. joined commandLines (R .rows) ++ (lineAs (commandKind c) (commandColumns c) ∷ map atomLine m)) e);
     }
 
 row-line : (s : Stage) (n : ℕ) (R : Routine) (c : Command) (v : Six ℕ) → v ≡ commandColumns c → listOf c ≡ [] → Sound s n R → (atRows s && ltb (length (R .rows)) n) ≡ true → fits (scopeIn (at s n R) (R .variables) (v .first)) (classesOf (commandKind c)) v ≡ true
     → Grown (linesAt s n R) (lineAs (commandKind c) v) s n (withRows R (R .rows ++ c ∷ []))
 row-line s n R c v e l x u h =
     subst (λ w. Grown (linesAt s n R) (lineAs (commandKind c) w) s n (withRows R (R .rows ++ c ∷ []))) (sym e)
-      (row-at s n R c l x u (subst (λ w. fits (scopeIn (at s n R) (R .variables) (w .first)) (classesOf (commandKind c)) w ≡ true) e h))
+    (row-at s n R c l x u (subst (λ w. fits (scopeIn (at s n R) (R .variables) (w .first)) (classesOf (commandKind c)) w ≡ true) e h))
 
 -- a line that is right
 module _ (s : Stage) (n : ℕ) (R : Routine) (v : Six ℕ) (x : Sound s n R) where

@@ -27,11 +27,11 @@ pub record Known (n : ℕ) (e : Entry) : Type 0 where
 known-in : (n : ℕ) (e : Entry) (ks : List Kind) → entryFor n (entries ks) ≡ Some e → Known n e
 known-in n e [] h = let z : _≡_ {A = ℕ} 0 1 = cc in absurd (omega arith)
 known-in n e (k ∷ ks) h = elim (cases-bool (eqb (codeOf k) n)) [
-    inl t ↦
+  | inl t ↦
       let f : Some (entryOf k) ≡ Some e = sym (cond-true (eqb (codeOf k) n) (Some (entryOf k)) (entryFor n (entries ks)) t) ∙ h in
       record { of-kind = k; entry = cc; number = sym (eqb-true (codeOf k) n t) }
   | inr f ↦ known-in n e ks (sym (cond-false (eqb (codeOf k) n) (Some (entryOf k)) (entryFor n (entries ks)) f) ∙ h)
-  ]
+]
 
 pub known : (n : ℕ) (e : Entry) → entryFor n table ≡ Some e → Known n e
 known n e h = known-in n e kinds h

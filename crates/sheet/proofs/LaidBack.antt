@@ -16,11 +16,10 @@ use Rattle.sheet.specs.declared.drafts.Draft.{Draft}
 use Rattle.sheet.specs.Routines.{Command, assign, load, store, new, free, jump, branch, cut, call, done, Routine, total}
 use Rattle.sheet.specs.Laid.{filled, laidList, laidRow, laid, laidProgress, listIn, commandIn, routineIn}
 use Rattle.sheet.specs.Reading.{Progress}
-use Rattle.sheet.specs.Flow.{misplaced}
+use Rattle.sheet.specs.Flow.{misplaced, InPlace}
 use Rattle.sheet.specs.Formed.{WellFormed, ListFormed, RowFormed}
 use Rattle.sheet.specs.Sheets.{newRoutine}
 use Rattle.sheet.specs.ModelReading.{Sized, progressIn}
-use Rattle.sheet.proofs.RowPlaces.{InPlace}
 use Rattle.sheet.proofs.WeightsExact.{heavy-none}
 
 pub list-back : (l : List Atom) → listIn (laidList l) ≡ l
@@ -51,7 +50,7 @@ routine-back R =
     let b = list-back (R .before) in
     let a = list-back (R .after) in
     let t : take (length (R .rows)) (filled 40 row.Done (map laidRow (R .rows))) ≡ map laidRow (R .rows) =
-      take-at (map laidRow (R .rows)) (replicate (40 - length (map laidRow (R .rows))) row.Done) (length (R .rows)) (length-map (R .rows) laidRow) in
+    take-at (map laidRow (R .rows)) (replicate (40 - length (map laidRow (R .rows))) row.Done) (length (R .rows)) (length-map (R .rows) laidRow) in
     let r : map commandIn (take (length (R .rows)) (filled 40 row.Done (map laidRow (R .rows)))) ≡ R .rows = ap (map commandIn) t ∙ rows-back (R .rows) in
     rebuilt R b a r
 
@@ -76,11 +75,18 @@ new-in-place i l h = let e : 1 ≡ i = omega arith in subst (λ k. misplaced (ne
 
 pub new-formed : WellFormed newRoutine
 new-formed = record {
-  own-number = omega arith; some-variable = omega arith; few-variables = omega arith; few-arguments = omega arith; arguments-within = omega arith;
-  few-ghosts = omega arith; some-row = omega arith; few-rows = omega arith;
+  own-number = omega arith;
+  some-variable = omega arith;
+  few-variables = omega arith;
+  few-arguments = omega arith;
+  arguments-within = omega arith;
+  few-ghosts = omega arith;
+  some-row = omega arith;
+  few-rows = omega arith;
   before-list = record { few = omega arith; names = tt };
   after-list = record { few = omega arith; names = tt };
   row-columns = (record { columns = refl; list = record { few = omega arith; names = tt } }, tt);
   few-atoms = omega arith;
   in-place = new-in-place;
-  light = heavy-none (newRoutine .rows) new-in-place refl }
+  light = heavy-none (newRoutine .rows) new-in-place refl;
+}

@@ -87,7 +87,7 @@ takes-end R a front c o f =
     let z = one-atom (R .variables) a c o in
     record {
       body = cond-false (eqb (length rows) 0) (atomAfter b a) (atomLast b a) (ne-eqb (length rows) 0 some-row) ∙ cc;
-      count = omega arith
+      count = omega arith;
     }
 
 takes-rows : (R : Routine) (a : Atom) (rows : List Command) → isOpen (openLast R (lastOf rows)) ≡ true → full (openLast R (lastOf rows)) ≡ false

@@ -43,10 +43,13 @@ first-line p k l ls e d w r f =
 later-line : (p q : Progress) (k : ℕ) (l : Numbers) (ls : List Numbers) (e : Report) (d : Numbers) → lineMore p l ≡ Ok q → RefusedAt q (suc k) ls e d → RefusedAt p k (l ∷ ls) e d
 later-line p q k l ls e d r s =
     record {
-      line = suc (s .line); inside = let h = s .inside in omega arith; ahead = s .ahead;
+      line = suc (s .line);
+      inside = let h = s .inside in omega arith;
+      ahead = s .ahead;
       says = ap (λ o. onward (atPlace k o) (λ u. allLines u (suc k) (take (s .line) ls))) r ∙ s .says;
-      problem = s .problem; refused = s .refused;
-      fault = let n : suc k + s .line ≡ k + suc (s .line) = omega arith in s .fault ∙ ap (plain (number (s .problem))) n
+      problem = s .problem;
+      refused = s .refused;
+      fault = let n : suc k + s .line ≡ k + suc (s .line) = omega arith in s .fault ∙ ap (plain (number (s .problem))) n;
     }
 
 by-line : (p : Progress) (k : ℕ) (l : Numbers) (ls : List Numbers) (e : Report) (d : Numbers) → ((q : Progress) → allLines q (suc k) ls ≡ Err e → RefusedAt q (suc k) ls e d)
@@ -133,9 +136,9 @@ by-entry : (t : List ℕ) (k : ℕ) (p : Progress) (l : Numbers) (w : Problem) �
 by-entry t k p l w j None s r = let e : NotDue ≡ w = cc in subst (λ x. Condition t (number x) (suc k) × (turn (number x) ≡ 2)) e (no-kind j s, refl)
 by-entry t k p l w j (Some e) s r =
     elim (by-tests (due p (e .role)) (fitting p e l) (overfull p (e .role)) w (or-wrong (wrong p e (l .operands)) (nextBy (e .role) p (e .kind) (l .operands)) w r)) [
-      inl (d, q) ↦ subst (λ x. Condition t (number x) (suc k) × (turn (number x) ≡ 2)) (sym q) (not-due j s d, refl)
-    | inr (inl (f, q)) ↦ subst (λ x. Condition t (number x) (suc k) × (turn (number x) ≡ 2)) (sym q) (bad-operand j s f, refl)
-    | inr (inr (o, q)) ↦ subst (λ x. Condition t (number x) (suc k) × (turn (number x) ≡ 2)) (sym q) (too-many j s o, refl)
+      | inl (d, q) ↦ subst (λ x. Condition t (number x) (suc k) × (turn (number x) ≡ 2)) (sym q) (not-due j s d, refl)
+      | inr (inl (f, q)) ↦ subst (λ x. Condition t (number x) (suc k) × (turn (number x) ≡ 2)) (sym q) (bad-operand j s f, refl)
+      | inr (inr (o, q)) ↦ subst (λ x. Condition t (number x) (suc k) × (turn (number x) ≡ 2)) (sym q) (too-many j s o, refl)
     ]
 
 -- a line that is refused meets the condition of its number

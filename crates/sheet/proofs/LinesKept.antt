@@ -71,7 +71,7 @@ module _ (s : Scope) where
   columns-kept c v h =
       let f = fitting s c v h in
       same-six _ _ _ _ _ _ _ _ _ _ _ _ (kept-one (c .first) (v .first) (f .first)) (kept-one (c .second) (v .second) (f .second)) (kept-one (c .third) (v .third) (f .third))
-        (kept-one (c .fourth) (v .fourth) (f .fourth)) (kept-one (c .fifth) (v .fifth) (f .fifth)) (kept-one (c .sixth) (v .sixth) (f .sixth))
+      (kept-one (c .fourth) (v .fourth) (f .fourth)) (kept-one (c .fifth) (v .fifth) (f .fifth)) (kept-one (c .sixth) (v .sixth) (f .sixth))
 
   module _ (few : s .variables ≤ 6) (rows : s .rows ≤ 40) (names : s .named ≤ 6) where
     small-one : (c : Class) (n : ℕ) → allowed s c n ≡ true → n < 10000
@@ -91,6 +91,10 @@ module _ (s : Scope) where
         let f = fitting s c v h in
         record {
           kind = small-code k;
-          first = small-one (c .first) (v .first) (f .first); second = small-one (c .second) (v .second) (f .second); third = small-one (c .third) (v .third) (f .third);
-          fourth = small-one (c .fourth) (v .fourth) (f .fourth); fifth = small-one (c .fifth) (v .fifth) (f .fifth); sixth = small-one (c .sixth) (v .sixth) (f .sixth)
+          first = small-one (c .first) (v .first) (f .first);
+          second = small-one (c .second) (v .second) (f .second);
+          third = small-one (c .third) (v .third) (f .third);
+          fourth = small-one (c .fourth) (v .fourth) (f .fourth);
+          fifth = small-one (c .fifth) (v .fifth) (f .fifth);
+          sixth = small-one (c .sixth) (v .sixth) (f .sixth);
         }

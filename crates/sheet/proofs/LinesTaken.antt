@@ -150,8 +150,10 @@ reached-more d e k ls l r h g t =
     let s : allLines p (suc k) (drop k ls) ≡ allLines q (suc (suc k)) (drop (k + 1) ls) = step-at p k ls l h g ∙ ap (λ x. onward (atPlace (suc k) x) (λ z. allLines z (suc (suc k)) (drop (k + 1) ls))) (o .1) in
     let n : suc (suc k) ≡ suc (k + 1) = omega arith in
     record {
-      says = q; held = o .2; within = within-taken p q l (r .within) (o .1);
-      rest = subst (λ m. allLines q m (drop (k + 1) ls) ≡ allLines start 1 ls) n (sym s ∙ r .rest)
+      says = q;
+      held = o .2;
+      within = within-taken p q l (r .within) (o .1);
+      rest = subst (λ m. allLines q m (drop (k + 1) ls) ≡ allLines start 1 ls) n (sym s ∙ r .rest);
     }
 
 pub reached-wrong : (d : Draft) (k : ℕ) (ls : List Numbers) (l : Numbers) (w : Problem) → Reached d k ls → k < length ls → getD ls k l ≡ l → takenLine d l ≡ Err w → allLines start 1 ls ≡ Err (plain (number w) (suc k))

@@ -34,8 +34,8 @@ module _ (f : ℕ → Bool) where
   lowest-none i (suc n) e j h l =
       let s = none-so-far (f i) i (lowest f (suc i) n) e in
       elim (cases-eq i j) [
-        inl q ↦ subst (λ m. f m ≡ false) q (s .0)
-      | inr ne ↦ lowest-none (suc i) n (s .1) j (omega arith) (omega arith)
+        | inl q ↦ subst (λ m. f m ≡ false) q (s .0)
+        | inr ne ↦ lowest-none (suc i) n (s .1) j (omega arith) (omega arith)
       ]
 
   pub none-lowest : (i n : ℕ) → ((j : ℕ) → i ≤ j → j < i + n → f j ≡ false) → lowest f i n ≡ None
@@ -46,13 +46,13 @@ module _ (f : ℕ → Bool) where
 
   lower : (i n k : ℕ) → f i ≡ false → Lowest f (suc i) n k → (j : ℕ) → i ≤ j → j < k → f j ≡ false
   lower i n k e s j h l = elim (cases-eq i j) [
-      inl q ↦ subst (λ m. f m ≡ false) q e
+    | inl q ↦ subst (λ m. f m ≡ false) q e
     | inr ne ↦ s .below j (omega arith) l
-    ]
+  ]
 
   pub lowest-some : (i n k : ℕ) → lowest f i n ≡ Some k → Lowest f i n k
   lowest-some i zero k e = let z : _≡_ {A = ℕ} 0 1 = cc in absurd (omega arith)
   lowest-some i (suc n) k e = elim (here-or-later (f i) i k (lowest f (suc i) n) e) [
-      inl s ↦ let q = s .1 in record { from = omega arith; within = omega arith; passes = subst (λ m. f m ≡ true) q (s .0); below = λ j h l. absurd (omega arith) }
+    | inl s ↦ let q = s .1 in record { from = omega arith; within = omega arith; passes = subst (λ m. f m ≡ true) q (s .0); below = λ j h l. absurd (omega arith) }
     | inr s ↦ let g = lowest-some (suc i) n k (s .1) in record { from = omega arith; within = omega arith; passes = g .passes; below = lower i n k (s .0) g }
-    ]
+  ]

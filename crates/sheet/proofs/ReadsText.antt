@@ -55,8 +55,14 @@ head-facts R n h =
     let e = and-parts (leb 1 n) (leb n 40) (f .fifth) in
     let g = leb-true (R .arguments) (min (R .variables) 6) (c .1) in
     record {
-      own-number = a; some-variable = leb-true 1 (R .variables) (b .0); few-variables = leb-true (R .variables) 6 (b .1); few-arguments = leb-true (R .arguments) 2 (c .0);
-      arguments-within = omega arith; few-ghosts = d; some-row = leb-true 1 n (e .0); few-rows = leb-true n 40 (e .1)
+      own-number = a;
+      some-variable = leb-true 1 (R .variables) (b .0);
+      few-variables = leb-true (R .variables) 6 (b .1);
+      few-arguments = leb-true (R .arguments) 2 (c .0);
+      arguments-within = omega arith;
+      few-ghosts = d;
+      some-row = leb-true 1 n (e .0);
+      few-rows = leb-true n 40 (e .1);
     }
 
 abbrev SoundAt : Progress → Type 0
@@ -89,11 +95,20 @@ formed R x a b =
     let h = head-facts R (length (R .rows)) (x .begun .0) in
     let i = misplaced-none (R .rows) a in
     record {
-      own-number = h .own-number; some-variable = h .some-variable; few-variables = h .few-variables; few-arguments = h .few-arguments;
-      arguments-within = h .arguments-within; few-ghosts = h .few-ghosts; some-row = h .some-row; few-rows = h .few-rows;
-      before-list = x .before-list; after-list = x .after-list;
+      own-number = h .own-number;
+      some-variable = h .some-variable;
+      few-variables = h .few-variables;
+      few-arguments = h .few-arguments;
+      arguments-within = h .arguments-within;
+      few-ghosts = h .few-ghosts;
+      some-row = h .some-row;
+      few-rows = h .few-rows;
+      before-list = x .before-list;
+      after-list = x .after-list;
       row-columns = all-weaker (RowFits (R .variables) (R .ghosts) (length (R .rows))) (RowFormed R) (λ c f. record { columns = f .columns; list = f .list }) (R .rows) (x .row-columns);
-      few-atoms = x .few-atoms; in-place = i; light = heavy-none (R .rows) i b
+      few-atoms = x .few-atoms;
+      in-place = i;
+      light = heavy-none (R .rows) i b;
     }
 
 whole : (s : Stage) (n : ℕ) (R S : Routine) → Sound s n R → complete (at s n R) ≡ true → rowsTested R ≡ Ok S → WellFormed S × (linesAt s n R ≡ linesFor S)

@@ -7,12 +7,9 @@ use native.Mathlib.Omega.{arith}
 use lib.ListN.{length}
 use Rattle.std.specs.declared.option.Option.the-variants.{Some, None}
 use Rattle.sheet.specs.Routines.{Command}
-use Rattle.sheet.specs.Flow.{misplaced}
+use Rattle.sheet.specs.Flow.{misplaced, InPlace}
 use Rattle.sheet.specs.Reading.{firstMisplaced}
 use Rattle.sheet.proofs.Lowest.{lowest, lowest-none, none-lowest, lowest-some}
-
-abbrev pub InPlace : List Command → Type 0
-InPlace rows = (i : ℕ) → 1 ≤ i → i ≤ length rows → misplaced rows i ≡ false
 
 module _ (rows : List Command) where
   as-lowest : (i : ℕ) (cs : List Command) → firstMisplaced rows i cs ≡ lowest (misplaced rows) i (length cs)

@@ -51,7 +51,7 @@ module _ (p : Progress) where
   atom-taken : (a : Atom) (named except : ℕ) (l : List Atom) → openIn p ≡ openAs named except l → length l < 8 → total (p .routine) < 80 → AtomFits (scopeIn p named except) a → lineMore p (atomLine a) ≡ Ok (atomNext a)
   atom-taken a named except l e few all h =
       by-kind a (ap isOpen e) (subst (λ o. AtomFits (scopeOpen p o) a) (sym e) h)
-        (or-from (full (openIn p)) (leb 80 (total (p .routine))) (ap full e ∙ lt-leb 8 (length l) few) (lt-leb 80 (total (p .routine)) all))
+      (or-from (full (openIn p)) (leb 80 (total (p .routine))) (ap full e ∙ lt-leb 8 (length l) few) (lt-leb 80 (total (p .routine)) all))
 
 -- the atoms of a list, where `to l` is the progress whose open list is l
 module _ (to : List Atom → Progress) (Fits : Atom → Type 0) (n : ℕ) (one : (l : List Atom) (a : Atom) → length l < n → Fits a → lineMore (to l) (atomLine a) ≡ Ok (to (l ++ a ∷ []))) where
@@ -66,15 +66,15 @@ before-run : (n : ℕ) (R : Routine) → ListFormed (scopeIn (at BeforeList n R)
     → Runs (at BeforeList n (withBefore R [])) (map atomLine (R .before)) (at BeforeList n R)
 before-run n R f t =
     atoms-run (λ l. at BeforeList n (withBefore R l)) (AtomFits (scopeIn (at BeforeList n R) (R .arguments) 0)) (length (R .before))
-      (λ l a h g. atom-taken (at BeforeList n (withBefore R l)) a (R .arguments) 0 l refl (let k = f .few in omega arith) (omega arith) g)
-      [] (R .before) (omega arith) (f .names)
+    (λ l a h g. atom-taken (at BeforeList n (withBefore R l)) a (R .arguments) 0 l refl (let k = f .few in omega arith) (omega arith) g)
+    [] (R .before) (omega arith) (f .names)
 
 after-run : (n : ℕ) (R : Routine) → ListFormed (scopeIn (at Rows n R) 1 0) (R .after) → total (withRows R []) ≤ 80
     → Runs (at Rows n (withRows (withAfter R []) [])) (map atomLine (R .after)) (at Rows n (withRows R []))
 after-run n R f t =
     atoms-run (λ l. at Rows n (withRows (withAfter R l) [])) (AtomFits (scopeIn (at Rows n R) 1 0)) (length (R .after))
-      (λ l a h g. atom-taken (at Rows n (withRows (withAfter R l) [])) a 1 0 l refl (let k = f .few in omega arith) (omega arith) g)
-      [] (R .after) (omega arith) (f .names)
+    (λ l a h g. atom-taken (at Rows n (withRows (withAfter R l) [])) a 1 0 l refl (let k = f .few in omega arith) (omega arith) g)
+    [] (R .after) (omega arith) (f .names)
 
 -- the list behind the last row, which is `make l` where the list is l
 behind-last : (R : Routine) (a : Atom) (front : List Command) (c : Command) → atomInRows (withRows R (front ++ c ∷ [])) a (front ++ c ∷ []) ≡ withRows R (front ++ withAtom a c ∷ [])
@@ -97,8 +97,8 @@ module _ (n : ℕ) (R : Routine) (front : List Command) where
         let r = ap length (has m) in
         let w = f .few in
         atoms-run (λ l. rowsAnd (make l)) (AtomFits (scopeWith (R .variables) (R .ghosts) n (R .variables) x)) (length m)
-          (λ l a h g. atom-behind l a (omega arith) (let y = atoms-push front (make l) in let z = ap length (has l) in omega arith) g)
-          [] m (omega arith) (f .names)
+        (λ l a h g. atom-behind l a (omega arith) (let y = atoms-push front (make l) in let z = ap length (has l) in omega arith) g)
+        [] m (omega arith) (f .names)
 
   row-taken : (k : Kind) (v : Six ℕ) → roleOf k ≡ role.Row → length front < n → fits (scopeWith (R .variables) (R .ghosts) n (R .variables) (v .first)) (classesOf k) v ≡ true → lineMore (at Rows n (withRows R front)) (lineAs k v) ≡ Ok (rowsAnd (commandFor k v))
   row-taken k v e h f =
@@ -125,9 +125,9 @@ rows-run n R front (c ∷ rest) f h t =
     let e = length-push front c in
     let a = atoms-push front c in
     subst (λ l. Runs (at Rows n (withRows R front)) (commandLines c ++ joined commandLines rest) (at Rows n (withRows R l))) (append-assoc front (c ∷ []) rest)
-      (runs-append (at Rows n (withRows R front)) (at Rows n (withRows R (front ++ c ∷ []))) (at Rows n (withRows R ((front ++ c ∷ []) ++ rest))) (commandLines c) (joined commandLines rest)
-        (row-run n R front c (f .0) (omega arith) (omega arith))
-        (rows-run n R (front ++ c ∷ []) rest (f .1) (omega arith) (omega arith)))
+    (runs-append (at Rows n (withRows R front)) (at Rows n (withRows R (front ++ c ∷ []))) (at Rows n (withRows R ((front ++ c ∷ []) ++ rest))) (commandLines c) (joined commandLines rest)
+    (row-run n R front c (f .0) (omega arith) (omega arith))
+    (rows-run n R (front ++ c ∷ []) rest (f .1) (omega arith) (omega arith)))
 
 -- all lines of a well-formed routine
 head-fits : (own v a g n : ℕ) → own ≤ 15 → 1 ≤ v → v ≤ 6 → a ≤ 2 → a ≤ v → g ≤ 2 → 1 ≤ n → n ≤ 40
@@ -147,15 +147,22 @@ all-run R w =
     let first = withRows (withAfter R []) [] in
     let both = withRows R [] in
     let t = w .few-atoms in
-    let rows = joined commandLines (R .rows) in
-    (at Headed n none, line-taken start Head (headColumns R n) refl (head-fits (R .own) (R .variables) (R .arguments) (R .ghosts) n (w .own-number) (w .some-variable) (w .few-variables) (w .few-arguments) (w .arguments-within) (w .few-ghosts) (w .some-row) (w .few-rows)) refl,
-    (at BeforeList n none, line-taken (at Headed n none) Before (six 0 0 0 0 0 0) refl refl refl,
-    runs-append (at BeforeList n none) (at BeforeList n first) (at Rows n R) (map atomLine (R .before)) (listLine After ∷ (map atomLine (R .after) ++ rows))
-      (before-run n first (w .before-list) (omega arith))
-      (at Rows n first, line-taken (at BeforeList n first) After (six 0 0 0 0 0 0) refl refl refl,
-      runs-append (at Rows n first) (at Rows n both) (at Rows n R) (map atomLine (R .after)) rows
-        (after-run n R (w .after-list) (omega arith))
-        (rows-run n R [] (R .rows) (fitting-rows R w) (omega arith) (omega arith)))))
+    let rows = joined commandLines (R .rows) in (
+      at Headed n none,
+      line-taken start Head (headColumns R n) refl (head-fits (R .own) (R .variables) (R .arguments) (R .ghosts) n (w .own-number) (w .some-variable) (w .few-variables) (w .few-arguments) (w .arguments-within) (w .few-ghosts) (w .some-row) (w .few-rows)) refl,
+      (
+        at BeforeList n none,
+        line-taken (at Headed n none) Before (six 0 0 0 0 0 0) refl refl refl,
+        runs-append (at BeforeList n none) (at BeforeList n first) (at Rows n R) (map atomLine (R .before)) (listLine After ∷ (map atomLine (R .after) ++ rows))
+            (before-run n first (w .before-list) (omega arith)) (
+              at Rows n first,
+              line-taken (at BeforeList n first) After (six 0 0 0 0 0 0) refl refl refl,
+              runs-append (at Rows n first) (at Rows n both) (at Rows n R) (map atomLine (R .after)) rows
+                  (after-run n R (w .after-list) (omega arith))
+                  (rows-run n R [] (R .rows) (fitting-rows R w) (omega arith) (omega arith)),
+            ),
+      ),
+    )
 
 -- they are short, and at most 123
 module _ (s : Scope) (few : s .variables ≤ 6) (rows : s .rows ≤ 40) (names : s .named ≤ 6) where
@@ -167,8 +174,8 @@ short-rows v g n [] h k f = tt
 short-rows v g n (c ∷ cs) h k f =
     let r = f .0 in
     all-append Short (commandLines c) (joined commandLines cs)
-      (line-short (scopeWith v g n v (commandColumns c .first)) h k h (commandKind c) (classesOf (commandKind c)) (commandColumns c) (r .columns), short-list (scopeWith v g n v (excepted c)) h k h (listOf c) (r .list))
-      (short-rows v g n cs h k (f .1))
+    (line-short (scopeWith v g n v (commandColumns c .first)) h k h (commandKind c) (classesOf (commandKind c)) (commandColumns c) (r .columns), short-list (scopeWith v g n v (excepted c)) h k h (listOf c) (r .list))
+    (short-rows v g n cs h k (f .1))
 
 short-lines : (R : Routine) → WellFormed R → All Short (linesFor R)
 short-lines R w =
@@ -177,13 +184,17 @@ short-lines R w =
     let m = w .few-rows in
     let a = w .few-arguments in
     let empty = scopeWith 0 0 0 0 0 in
-    let headed : Short (headLine R n) = (let o = w .own-number in let b = w .few-ghosts in record { kind = omega arith; first = omega arith; second = omega arith; third = omega arith; fourth = omega arith; fifth = omega arith; sixth = omega arith }) in
-    (headed,
-    (line-short empty (omega arith) (omega arith) (omega arith) Before (classesOf Before) (six 0 0 0 0 0 0) refl,
-    all-append Short (map atomLine (R .before)) _ (short-list (scopeOf R (R .arguments) 0) v m (omega arith) (R .before) (w .before-list))
-      (line-short empty (omega arith) (omega arith) (omega arith) After (classesOf After) (six 0 0 0 0 0 0) refl,
-      all-append Short (map atomLine (R .after)) _ (short-list (scopeOf R 1 0) v m (omega arith) (R .after) (w .after-list))
-        (short-rows (R .variables) (R .ghosts) n (R .rows) v m (fitting-rows R w)))))
+    let headed : Short (headLine R n) = (let o = w .own-number in let b = w .few-ghosts in record { kind = omega arith; first = omega arith; second = omega arith; third = omega arith; fourth = omega arith; fifth = omega arith; sixth = omega arith }) in (
+      headed,
+      (
+        line-short empty (omega arith) (omega arith) (omega arith) Before (classesOf Before) (six 0 0 0 0 0 0) refl,
+        all-append Short (map atomLine (R .before)) _ (short-list (scopeOf R (R .arguments) 0) v m (omega arith) (R .before) (w .before-list)) (
+          line-short empty (omega arith) (omega arith) (omega arith) After (classesOf After) (six 0 0 0 0 0 0) refl,
+          all-append Short (map atomLine (R .after)) _ (short-list (scopeOf R 1 0) v m (omega arith) (R .after) (w .after-list))
+              (short-rows (R .variables) (R .ghosts) n (R .rows) v m (fitting-rows R w)),
+        ),
+      ),
+    )
 
 row-lines : (cs : List Command) → length (joined commandLines cs) ≡ length cs + atomsBehind cs
 row-lines [] = refl

@@ -14,10 +14,9 @@ use Rattle.std.proofs.shelf.Ways.{tells}
 use Rattle.sheet.specs.Kinds.{weightOf}
 use Rattle.sheet.specs.Routines.{Command, assign, load, store, new, free, jump, branch, cut, call, done}
 use Rattle.sheet.specs.Written.{commandKind}
-use Rattle.sheet.specs.Flow.{rowAt, isCut, opens, closes, ends, strays, badTarget, Leads, Way, close, step, Opens, Heavy}
+use Rattle.sheet.specs.Flow.{rowAt, isCut, opens, closes, ends, strays, badTarget, Leads, Way, close, step, Opens, Heavy, InPlace, Most}
 use Rattle.sheet.specs.Reading.{ahead, weighs, weights, firstHeavy, heavyPiece}
 use Rattle.sheet.proofs.Lowest.{lowest, lowest-none, none-lowest, lowest-some}
-use Rattle.sheet.proofs.RowPlaces.{InPlace}
 
 pub length-weights : (i : ℕ) (rows : List Command) → length (weights i rows) ≡ length rows
 length-weights i [] = refl
@@ -106,9 +105,9 @@ module _ (rows : List Command) where
   -- a target is a later row or a cut
   target-cases : (i r : ℕ) → strays rows i r ≡ false → (i < r) ⊎ (isCut (rowAt rows r) ≡ true)
   target-cases i r e = elim (or-cases (ltb i r) (isCut (rowAt rows r)) (not-false (ltb i r || isCut (rowAt rows r)) e)) [
-      inl h ↦ inl (ltb-true i r h)
+    | inl h ↦ inl (ltb-true i r h)
     | inr h ↦ inr h
-    ]
+  ]
 
   -- a row leads on to a later row, with what is left of the weight, or to a cut
   abbrev LeadsOn : Command → ℕ → ℕ → Type 0
@@ -119,9 +118,9 @@ module _ (rows : List Command) where
 
   to-target : (v i r j : ℕ) → strays rows i r ≡ false → j ≡ r → ahead i (rest i) r ≤ v → ((i < j) × (0 + most rows j ≤ v)) ⊎ ((isCut (rowAt rows j) ≡ true) × (_≡_ {A = ℕ} 0 0))
   to-target v i r j b e h = elim (target-cases i r b) [
-      inl l ↦ inl (omega arith, let q = ahead-is i r l in subst (λ m. 0 + most rows m ≤ v) (sym e) (omega arith))
+    | inl l ↦ inl (omega arith, let q = ahead-is i r l in subst (λ m. 0 + most rows m ≤ v) (sym e) (omega arith))
     | inr c ↦ inr (subst (λ m. isCut (rowAt rows m) ≡ true) (sym e) c, refl)
-    ]
+  ]
 
   leads-on : (c : Command) (i j : ℕ) → badTarget rows i c ≡ false → Leads c i j → LeadsOn c i j
   leads-on (assign x e) i j b l = inl (omega arith, let h = to-next 0 i j l in omega arith)
@@ -143,9 +142,9 @@ module _ (rows : List Command) where
   module _ (in-place : InPlace rows) where
     in-place-at : (i : ℕ) → 1 ≤ i → badTarget rows i (rowAt rows i) ≡ false
     in-place-at i h = elim (cases-lt (length rows) i) [
-        inl g ↦ subst (λ c. badTarget rows i c ≡ false) (sym (getD-past rows (i - 1) done (omega arith))) refl
+      | inl g ↦ subst (λ c. badTarget rows i c ≡ false) (sym (getD-past rows (i - 1) done (omega arith))) refl
       | inr g ↦ or-parts (badTarget rows i (rowAt rows i)) (eqb i (length rows) && not (ends (rowAt rows i))) (in-place i h g) .0
-      ]
+    ]
 
     -- no way weighs more
     pub way-bounded : {i w : ℕ} → 1 ≤ i → Way rows i w → w ≤ most rows i
@@ -153,8 +152,8 @@ module _ (rows : List Command) where
     way-bounded {i} {w} h (step {j = j} {w = v} l y) =
         let m = most-is i h in
         elim (leads-on (rowAt rows i) i j (in-place-at i h) l) [
-          inl o ↦ let b = way-bounded (omega arith) y in omega arith
-        | inr o ↦ let z = closed-way (cut-closes (rowAt rows j) (o .0)) y in omega arith
+          | inl o ↦ let b = way-bounded (omega arith) y in omega arith
+          | inr o ↦ let z = closed-way (cut-closes (rowAt rows j) (o .0)) y in omega arith
         ]
 
     step-as : (c : Command) (i j v w : ℕ) → c ≡ rowAt rows i → Leads c i j → Way rows j w → weightOf (commandKind c) + w ≡ v → Way rows i v
@@ -172,12 +171,12 @@ module _ (rows : List Command) where
 
     way-target : (c : Command) (i r : ℕ) → c ≡ rowAt rows i → Leads c i r → weightOf (commandKind c) ≡ 0 → strays rows i r ≡ false → Later i → Way rows i (ahead i (rest i) r)
     way-target c i r e l z b f = elim (cases-lt i r) [
-        inl h ↦ step-as c i r (ahead i (rest i) r) (most rows r) e l (f r h) (let q = ahead-is i r h in omega arith)
+      | inl h ↦ step-as c i r (ahead i (rest i) r) (most rows r) e l (f r h) (let q = ahead-is i r h in omega arith)
       | inr h ↦ elim (target-cases i r b) [
-          inl g ↦ absurd (omega arith)
+        | inl g ↦ absurd (omega arith)
         | inr k ↦ step-as c i r (ahead i (rest i) r) 0 e l (close (cut-closes (rowAt rows r) k)) (let q = ahead-back i r h in omega arith)
-        ]
       ]
+    ]
 
     -- from each row there is a way of its weight if there is one from each later row
     way-on : (c : Command) (i : ℕ) → c ≡ rowAt rows i → badTarget rows i c ≡ false → Later i → Way rows i (weighs c i (rest i))
@@ -188,9 +187,9 @@ module _ (rows : List Command) where
     way-on (free x) i e b f = way-next (free x) i (1 + getD (rest i) 0 0) e refl refl f
     way-on (jump r) i e b f = way-target (jump r) i r e refl refl b f
     way-on (branch x y r) i e b f = elim (cases-lt (getD (rest i) 0 0) (ahead i (rest i) r)) [
-        inl h ↦ let q : ahead i (rest i) r ≡ max (getD (rest i) 0 0) (ahead i (rest i) r) = omega arith in subst (Way rows i) q (way-target (branch x y r) i r e (inl refl) refl b f)
+      | inl h ↦ let q : ahead i (rest i) r ≡ max (getD (rest i) 0 0) (ahead i (rest i) r) = omega arith in subst (Way rows i) q (way-target (branch x y r) i r e (inl refl) refl b f)
       | inr h ↦ way-next (branch x y r) i (max (getD (rest i) 0 0) (ahead i (rest i) r)) e (inr refl) (omega arith) f
-      ]
+    ]
     way-on (cut k) i e b f = close-as (cut k) i 0 e refl refl
     way-on (call x q y z s t k) i e b f = close-as (call x q y z s t k) i 0 e refl refl
     way-on done i e b f = close-as done i 0 e refl refl
@@ -222,9 +221,9 @@ module _ (rows : List Command) where
   heavy-search k (c ∷ cs) e =
       let behind = rows-behind k c cs e in
       let w : getD (weights (suc (suc k)) cs) 0 0 ≡ most rows (suc (suc k)) =
-        ap (λ xs. getD (weights (suc (suc k)) xs) 0 0) (sym behind) ∙ (ap (λ ws. getD ws 0 0) (weights-drop (suc k) 1 (suc (suc k)) rows (omega arith)) ∙ next-is (suc k)) in
+      ap (λ xs. getD (weights (suc (suc k)) xs) 0 0) (sym behind) ∙ (ap (λ ws. getD ws 0 0) (weights-drop (suc k) 1 (suc (suc k)) rows (omega arith)) ∙ next-is (suc k)) in
       ap (λ b. cond b (Some (suc k)) (firstHeavy (suc (suc k)) cs))
-        (same-test (eqb (suc k) 0) (opens (rowAt rows (suc k))) (opens c) (most rows (suc (suc k))) (getD (weights (suc (suc k)) cs) 0 0) (ne-eqb (suc k) 0 (λ q. omega arith)) (ap opens (row-ahead k c cs e)) w)
+      (same-test (eqb (suc k) 0) (opens (rowAt rows (suc k))) (opens c) (most rows (suc (suc k))) (getD (weights (suc (suc k)) cs) 0 0) (ne-eqb (suc k) 0 (λ q. omega arith)) (ap opens (row-ahead k c cs e)) w)
       ∙ ap (λ o. cond (over (suc k)) (Some (suc k)) o) (heavy-search (suc k) cs behind)
 
   as-lowest : heavyPiece rows ≡ lowest over 0 (suc (length rows))
@@ -236,12 +235,12 @@ module _ (rows : List Command) where
 
   test-opens : (p : ℕ) → p ≤ length rows → (eqb p 0 || opens (rowAt rows p)) ≡ true → Opens rows p
   test-opens p h e = elim (cases-eq p 0) [
-      inl z ↦ inl z
+    | inl z ↦ inl z
     | inr n ↦ elim (or-cases (eqb p 0) (opens (rowAt rows p)) e) [
-        inl z ↦ inl (eqb-true p 0 z)
+      | inl z ↦ inl (eqb-true p 0 z)
       | inr o ↦ inr (omega arith, h, o)
-      ]
     ]
+  ]
 
   module _ (in-place : InPlace rows) where
     heavy-over : (p : ℕ) → Heavy rows p → (p ≤ length rows) × (over p ≡ true)
@@ -262,11 +261,18 @@ module _ (rows : List Command) where
 
     pub none-heavy : ((p : ℕ) → Heavy rows p → ⊥) → heavyPiece rows ≡ None
     none-heavy f = as-lowest ∙ none-lowest over 0 (suc (length rows)) (λ p h l. elim (cases-bool (over p)) [
-        inl t ↦ absurd (f p (over-heavy p (omega arith) t))
+      | inl t ↦ absurd (f p (over-heavy p (omega arith) t))
       | inr t ↦ t
-      ])
+    ])
 
     pub heavy-first : (p : ℕ) → heavyPiece rows ≡ Some p → Heavy rows p × ((q : ℕ) → q < p → Heavy rows q → ⊥)
     heavy-first p e =
         let f = lowest-some over 0 (suc (length rows)) p (sym as-lowest ∙ e) in
         (over-heavy p (omega arith) (f .passes), λ q l h. both-ways (over q) (f .below q (omega arith) l) (heavy-over q h .1))
+
+-- the weight of a piece is the most on any way
+pub most-exact : (rows : List Command) → InPlace rows → (k : ℕ) → Most rows (suc k) (getD (weights 1 rows) k 0)
+most-exact rows p k =
+    let e : suc k - 1 ≡ k = omega arith in
+    subst (λ n. Most rows (suc k) (getD (weights 1 rows) n 0)) e
+      (record { reached = way-there rows p (suc k) (omega arith); greatest = λ v w. way-bounded rows p (omega arith) w })

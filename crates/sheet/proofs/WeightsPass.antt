@@ -26,12 +26,12 @@ first-same ws W i a = let e : i ≡ i + 0 = omega arith in ap (λ n. getD ws n 0
 
 ahead-same : (ws W : List ℕ) (i r : ℕ) → Agree ws i W → aheadIn i ws r ≡ ahead i W r
 ahead-same ws W i r a = elim (cases-bool (ltb i r)) [
-    inl t ↦
+  | inl t ↦
       let h = ltb-true i r t in
       let e : r - 1 ≡ i + (r - suc i) = omega arith in
       ap (λ b. cond b (getD ws (r - 1) 0) 0) t ∙ (ap (λ n. getD ws n 0) e ∙ (a (r - suc i) ∙ sym (ap (λ b. cond b (getD W (r - suc i) 0) 0) t)))
   | inr f ↦ ap (λ b. cond b (getD ws (r - 1) 0) 0) f ∙ sym (ap (λ b. cond b (getD W (r - suc i) 0) 0) f)
-  ]
+]
 
 pub weighs-same : (c : Command) (i : ℕ) (ws W : List ℕ) → Agree ws i W → weighsIn c i ws ≡ weighs c i W
 weighs-same (assign x e) i ws W a = first-same ws W i a
@@ -65,9 +65,9 @@ passed-more ws i w rows c h l e q a =
     let n = add-one i in
     let b : Agree ws (suc i) (weights (suc (suc i)) (drop (suc i) rows)) = subst (λ m. Agree ws m (weights (suc m) (drop m rows))) n a in
     let s : w ≡ weighs (getD rows i done) (suc i) (weights (suc (suc i)) (drop (suc i) rows)) =
-      q ∙ (ap (λ m. weighsIn c m ws) n ∙ (weighs-same c (suc i) ws (weights (suc (suc i)) (drop (suc i) rows)) b ∙ ap (λ x. weighs x (suc i) (weights (suc (suc i)) (drop (suc i) rows))) e)) in
+    q ∙ (ap (λ m. weighsIn c m ws) n ∙ (weighs-same c (suc i) ws (weights (suc (suc i)) (drop (suc i) rows)) b ∙ ap (λ x. weighs x (suc i) (weights (suc (suc i)) (drop (suc i) rows))) e)) in
     let d : weights (suc i) (drop i rows) ≡ weighs (getD rows i done) (suc i) (weights (suc (suc i)) (drop (suc i) rows)) ∷ weights (suc (suc i)) (drop (suc i) rows) =
-      at-drop-more (weights (suc i)) rows i done h ∙ ap (λ m. weighs (getD rows i done) (suc i) (weights (suc (suc i)) (drop m rows)) ∷ weights (suc (suc i)) (drop m rows)) n in
+    at-drop-more (weights (suc i)) rows i done h ∙ ap (λ m. weighs (getD rows i done) (suc i) (weights (suc (suc i)) (drop m rows)) ∷ weights (suc (suc i)) (drop m rows)) n in
     subst (λ W. Agree (set ws i w) i W) (sym d) (subst (λ x. Agree (set ws i w) i (x ∷ weights (suc (suc i)) (drop (suc i) rows))) s (agree-more ws (weights (suc (suc i)) (drop (suc i) rows)) i w l b))
 
 pub passed-small : (ws : List ℕ) (i n : ℕ) (rows : List Command) → length rows ≤ n → Passed ws i rows → getD ws i 0 ≤ n

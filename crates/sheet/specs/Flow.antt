@@ -105,6 +105,15 @@ pub data Way (rows : List Command) : ℕ → ℕ → Type 0 where
   close : {i : ℕ} → closes (rowAt rows i) ≡ true → Way rows i 0
   step : {i j w : ℕ} → Leads (rowAt rows i) i j → Way rows j w → Way rows i (weightOf (commandKind (rowAt rows i)) + w)
 
+-- no row is misplaced
+abbrev pub InPlace : List Command → Type 0
+InPlace rows = (i : ℕ) → 1 ≤ i → i ≤ length rows → misplaced rows i ≡ false
+
+-- w is the most that the ways from row i on weigh
+pub record Most (rows : List Command) (i w : ℕ) : Type 0 where
+  pub reached : Way rows i w
+  pub greatest : (v : ℕ) → Way rows i v → v ≤ w
+
 -- a piece opens behind row p; 0 is the start
 abbrev pub Opens : List Command → ℕ → Type 0
 Opens rows p = (p ≡ 0) ⊎ ((1 ≤ p) × (p ≤ length rows) × (opens (rowAt rows p) ≡ true))

@@ -1,7 +1,7 @@
 -- Meaning: what a well-formed routine is: its sizes, what its columns hold, where its rows lead, how much its pieces weigh. Assumes nothing.
 use mathlib.Core.Path.{_≡_}
 use mathlib.Core.List.{List}
-use mathlib.Core.Bool.{true, false}
+use mathlib.Core.Bool.{true}
 use Prim.Native.Nat.{ℕ, _≤_}
 use lib.ListN.{length}
 use Rattle.std.specs.shelf.Lists.{All}
@@ -10,7 +10,7 @@ use Rattle.sheet.specs.declared.kinds.Scope.{Scope}
 use Rattle.sheet.specs.Kinds.{classesOf, fits}
 use Rattle.sheet.specs.Routines.{Command, assign, load, store, new, free, jump, branch, cut, call, done, Routine, listOf, total}
 use Rattle.sheet.specs.Written.{atomKind, atomColumns, commandKind, commandColumns}
-use Rattle.sheet.specs.Flow.{misplaced, Heavy}
+use Rattle.sheet.specs.Flow.{InPlace, Heavy}
 
 -- the variables 1 to `named`, but for `except`, may be named
 abbrev pub scopeOf : Routine → ℕ → ℕ → Scope
@@ -53,5 +53,5 @@ pub record WellFormed (R : Routine) : Type 0 where
   pub after-list : ListFormed (scopeOf R 1 0) (R .after)
   pub row-columns : All (RowFormed R) (R .rows)
   pub few-atoms : total R ≤ 80
-  pub in-place : (i : ℕ) → 1 ≤ i → i ≤ length (R .rows) → misplaced (R .rows) i ≡ false
+  pub in-place : InPlace (R .rows)
   pub light : (p : ℕ) → Heavy (R .rows) p → ⊥

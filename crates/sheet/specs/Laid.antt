@@ -33,9 +33,15 @@ laidRow done = Done
 
 abbrev pub laid : Routine → Body
 laid R = record {
-  own = R .own; variables = R .variables; arguments = R .arguments; ghosts = R .ghosts;
-  before = laidList (R .before); after = laidList (R .after);
-  rows = filled 40 Done (map laidRow (R .rows)); count = length (R .rows) }
+  own = R .own;
+  variables = R .variables;
+  arguments = R .arguments;
+  ghosts = R .ghosts;
+  before = laidList (R .before);
+  after = laidList (R .after);
+  rows = filled 40 Done (map laidRow (R .rows));
+  count = length (R .rows);
+}
 
 -- what the code holds of what it has read
 abbrev pub laidProgress : Progress → Draft
@@ -59,6 +65,11 @@ commandIn Done = done
 
 abbrev pub routineIn : Body → Routine
 routineIn b = record {
-  own = b .own; variables = b .variables; arguments = b .arguments; ghosts = b .ghosts;
-  before = listIn (b .before); after = listIn (b .after);
-  rows = map commandIn (take (b .count) (b .rows)) }
+  own = b .own;
+  variables = b .variables;
+  arguments = b .arguments;
+  ghosts = b .ghosts;
+  before = listIn (b .before);
+  after = listIn (b .after);
+  rows = map commandIn (take (b .count) (b .rows));
+}

@@ -192,10 +192,10 @@ added role.Row d k v = record { stage = d .stage; promised = d .promised; atoms 
 abbrev pub wrongDraft : Draft → Entry → Six ℕ → Option Problem
 wrongDraft d e v =
     cond (dueDraft d (e .role))
-      (cond (fits (scopeLine d (e .role) v) (e .classes) v)
-        (cond (overfullDraft d (e .role)) (Some AtomCount) None)
-        (Some Operand))
-      (Some NotDue)
+    (cond (fits (scopeLine d (e .role) v) (e .classes) v)
+    (cond (overfullDraft d (e .role)) (Some AtomCount) None)
+    (Some Operand))
+    (Some NotDue)
 
 abbrev pub checkedBy : Option Problem → Six ℕ → Result (Six ℕ) Problem
 checkedBy None v = Ok v

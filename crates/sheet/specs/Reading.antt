@@ -148,10 +148,10 @@ overfull p role.Row = false
 abbrev pub wrong : Progress → Entry → Six ℕ → Option Problem
 wrong p e v =
     cond (due p (e .role))
-      (cond (fits (scopeFor p (e .role) v) (e .classes) v)
-        (cond (overfull p (e .role)) (Some AtomCount) None)
-        (Some Operand))
-      (Some NotDue)
+    (cond (fits (scopeFor p (e .role) v) (e .classes) v)
+    (cond (overfull p (e .role)) (Some AtomCount) None)
+    (Some Operand))
+    (Some NotDue)
 
 abbrev pub atomFor : Kind → Six ℕ → Atom
 atomFor Head v = Eq (v .first) (v .second)

@@ -15,7 +15,10 @@ use layout::Six;
 pub(crate) fn empty_list() -> AtomList
     ensures { λ r. ⌜ r ≡ emptyList ⌝ }
 {
-    AtomList { atoms: [Atom::Eq { left: 0, right: 0 }; LIST], count: 0 }
+    AtomList {
+        atoms: [Atom::Eq { left: 0, right: 0 }; LIST],
+        count: 0,
+    }
 }
 
 pub(crate) fn push(list: &mut AtomList, atom: Atom)
@@ -32,10 +35,22 @@ pub(crate) fn atom_for(kind: Kind, columns: &Six<u8>) -> Atom
 {
     let Six { first, second, .. } = *columns;
     match kind {
-        Kind::Unequal => Atom::Neq { left: first, right: second },
-        Kind::Cell => Atom::Next { cell: first, link: second },
-        Kind::Segment => Atom::Lseg { from: first, to: second },
-        _ => Atom::Eq { left: first, right: second },
+        Kind::Unequal => Atom::Neq {
+            left: first,
+            right: second,
+        },
+        Kind::Cell => Atom::Next {
+            cell: first,
+            link: second,
+        },
+        Kind::Segment => Atom::Lseg {
+            from: first,
+            to: second,
+        },
+        _ => Atom::Eq {
+            left: first,
+            right: second,
+        },
     }
 }
 
@@ -43,17 +58,45 @@ pub(crate) fn atom_for(kind: Kind, columns: &Six<u8>) -> Atom
 pub(crate) fn row_for(kind: Kind, columns: &Six<u8>) -> Row
     ensures { λ r. ⌜ r ≡ rowFor kind (now (columns .entry)) ⌝ }
 {
-    let Six { first, second, third, fourth, fifth, sixth } = *columns;
+    let Six {
+        first,
+        second,
+        third,
+        fourth,
+        fifth,
+        sixth,
+    } = *columns;
     match kind {
-        Kind::Set => Row::Set { into: first, from: second },
-        Kind::Load => Row::Load { into: first, cell: second },
-        Kind::Store => Row::Store { cell: first, link: second },
+        Kind::Set => Row::Set {
+            into: first,
+            from: second,
+        },
+        Kind::Load => Row::Load {
+            into: first,
+            cell: second,
+        },
+        Kind::Store => Row::Store {
+            cell: first,
+            link: second,
+        },
         Kind::New => Row::New { into: first },
         Kind::Free => Row::Free { cell: first },
         Kind::Jump => Row::Jump { to: first },
-        Kind::Branch => Row::Branch { left: first, right: second, to: third },
+        Kind::Branch => Row::Branch {
+            left: first,
+            right: second,
+            to: third,
+        },
         Kind::Cut => Row::Cut { list: empty_list() },
-        Kind::Call => Row::Call { into: first, routine: second, first: third, second: fourth, first_ghost: fifth, second_ghost: sixth, frame: empty_list() },
+        Kind::Call => Row::Call {
+            into: first,
+            routine: second,
+            first: third,
+            second: fourth,
+            first_ghost: fifth,
+            second_ghost: sixth,
+            frame: empty_list(),
+        },
         _ => Row::Done,
     }
 }
@@ -63,8 +106,16 @@ pub(crate) fn open_row(variables: u8, row: &Row) -> Option<Open>
     ensures { λ r. ⌜ r ≡ openRow variables (now (row .entry)) ⌝ }
 {
     match row {
-        Row::Cut { list } => Some(Open { named: variables, except: 0, count: list.count }),
-        Row::Call { into, frame, .. } => Some(Open { named: variables, except: *into, count: frame.count }),
+        Row::Cut { list } => Some(Open {
+            named: variables,
+            except: 0,
+            count: list.count,
+        }),
+        Row::Call { into, frame, .. } => Some(Open {
+            named: variables,
+            except: *into,
+            count: frame.count,
+        }),
         _ => None,
     }
 }

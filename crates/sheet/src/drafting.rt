@@ -34,7 +34,11 @@ impl Body {
         ensures { λ r. ⌜ r ≡ openBody (now (self .entry)) ⌝ }
     {
         if self.count == 0 {
-            Some(Open { named: 1, except: 0, count: self.after.count })
+            Some(Open {
+                named: 1,
+                except: 0,
+                count: self.after.count,
+            })
         } else {
             open_row(self.variables, &self.rows[self.count as usize - 1])
         }
@@ -78,7 +82,11 @@ impl Draft {
     {
         match self.stage {
             Stage::Start | Stage::Headed => None,
-            Stage::BeforeList => Some(Open { named: self.body.arguments, except: 0, count: self.body.before.count }),
+            Stage::BeforeList => Some(Open {
+                named: self.body.arguments,
+                except: 0,
+                count: self.body.before.count,
+            }),
             Stage::Rows => self.body.open(),
         }
     }
@@ -100,7 +108,13 @@ impl Draft {
     fn scope(&self, named: u8, except: u16) -> Scope
         ensures { λ r. ⌜ r ≡ scopeDraft (now (self .entry)) named except ⌝ }
     {
-        Scope { variables: self.body.variables, ghosts: self.body.ghosts, rows: self.promised, named, except }
+        Scope {
+            variables: self.body.variables,
+            ghosts: self.body.ghosts,
+            rows: self.promised,
+            named,
+            except,
+        }
     }
 
     // What the columns of a line may hold. The head's own number of variables bounds its arguments; the ghosts of a call may not be its result.
@@ -109,7 +123,13 @@ impl Draft {
         ensures { λ r. ⌜ r ≡ scopeLine (now (self .entry)) role (now (values .entry)) ⌝ }
     {
         match role {
-            Role::Head => Scope { variables: values.second.min(6) as u8, ghosts: 0, rows: 0, named: 0, except: 0 },
+            Role::Head => Scope {
+                variables: values.second.min(6) as u8,
+                ghosts: 0,
+                rows: 0,
+                named: 0,
+                except: 0,
+            },
             Role::Before | Role::After => self.scope(0, 0),
             Role::Atom => match self.open() {
                 Some(open) => self.scope(open.named, open.except as u16),

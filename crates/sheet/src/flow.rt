@@ -1,10 +1,10 @@
 // Where the rows of a sheet lead, and how much its pieces weigh.
 ghost use mathlib.Core.Path.{_≡_};
-ghost use Prim.Native.Nat.{ℕ, _+_, _-_, _≤_, _<_};
+ghost use Prim.Native.Nat.{ℕ, suc, _+_, _-_, _≤_, _<_};
 ghost use mathlib.Core.Bool.{cond, _&&_};
 ghost use lib.Dec.{ltb};
 ghost use lib.ListN.{length, getD};
-ghost use Rattle.sheet.specs.Flow.{rowAt, isCut, opens, ends, strays, badTarget, misplaced};
+ghost use Rattle.sheet.specs.Flow.{rowAt, isCut, opens, ends, strays, badTarget, misplaced, InPlace, Most};
 ghost use Rattle.sheet.specs.Laid.{commandIn};
 ghost use Rattle.sheet.specs.Reading.{firstMisplaced, heavyPiece, weights as weightsFrom};
 ghost use Rattle.sheet.specs.ModelReading.{Sized, rowsIn, weighsIn};
@@ -38,7 +38,11 @@ impl Body {
         ensures { λ row. ⌜ commandIn row ≡ rowAt (rowsIn (now (self .entry))) r ⌝ }
     {
         let index = r.saturating_sub(1);
-        if index < self.count as usize { self.rows[index] } else { Row::Done }
+        if index < self.count as usize {
+            self.rows[index]
+        } else {
+            Row::Done
+        }
     }
 
     // Whether row r is neither later than row i nor a cut.
@@ -111,7 +115,8 @@ fn weight_of(row: &Row, i: usize, weights: &[u8]) -> u8
 {
     match row {
         Row::Set { .. } => entry_at(weights, i),
-        Row::Load { .. } | Row::Store { .. } | Row::New { .. } | Row::Free { .. } => 1 + entry_at(weights, i),
+        Row::Load { .. } | Row::Store { .. } | Row::New { .. } | Row::Free { .. } => 1
+            + entry_at(weights, i),
         Row::Jump { to } => weight_ahead(weights, i, *to as usize),
         Row::Branch { to, .. } => entry_at(weights, i).max(weight_ahead(weights, i, *to as usize)),
         Row::Cut { .. } | Row::Call { .. } | Row::Done => 0,
@@ -124,6 +129,7 @@ impl Body {
         requires { ⌜ Sized (now self) ⌝ }
         ensures size { λ ws. ⌜ length ws ≡ 41 ⌝ }
         ensures entries { λ ws. ⌜ ((k : ℕ) → getD ws k 0 ≡ getD (weightsFrom 1 (rowsIn (now (self .entry)))) k 0) ⌝ }
+        ensures most { λ ws. ⌜ (InPlace (rowsIn (now (self .entry))) → (k : ℕ) → Most (rowsIn (now (self .entry))) (suc k) (getD ws k 0)) ⌝ }
     {
         let mut found = [0; LANDINGS];
         for i in (0..self.count as usize).rev() {

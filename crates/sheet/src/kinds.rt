@@ -84,31 +84,198 @@ pub struct Scope {
     pub except: u16,
 }
 
-const UNUSED: Six<Class> = Six { first: Class::Unused, second: Class::Unused, third: Class::Unused, fourth: Class::Unused, fifth: Class::Unused, sixth: Class::Unused };
-const ATOM: Six<Class> = Six { first: Class::Named, second: Class::Named, third: Class::Unused, fourth: Class::Unused, fifth: Class::Unused, sixth: Class::Unused };
+const UNUSED: Six<Class> = Six {
+    first: Class::Unused,
+    second: Class::Unused,
+    third: Class::Unused,
+    fourth: Class::Unused,
+    fifth: Class::Unused,
+    sixth: Class::Unused,
+};
 
-const VARIABLE: Six<Class> = Six { first: Class::Variable, second: Class::Unused, third: Class::Unused, fourth: Class::Unused, fifth: Class::Unused, sixth: Class::Unused };
-const VARIABLE_VALUE: Six<Class> = Six { first: Class::Variable, second: Class::Value, third: Class::Unused, fourth: Class::Unused, fifth: Class::Unused, sixth: Class::Unused };
+const ATOM: Six<Class> = Six {
+    first: Class::Named,
+    second: Class::Named,
+    third: Class::Unused,
+    fourth: Class::Unused,
+    fifth: Class::Unused,
+    sixth: Class::Unused,
+};
+
+const VARIABLE: Six<Class> = Six {
+    first: Class::Variable,
+    second: Class::Unused,
+    third: Class::Unused,
+    fourth: Class::Unused,
+    fifth: Class::Unused,
+    sixth: Class::Unused,
+};
+
+const VARIABLE_VALUE: Six<Class> = Six {
+    first: Class::Variable,
+    second: Class::Value,
+    third: Class::Unused,
+    fourth: Class::Unused,
+    fifth: Class::Unused,
+    sixth: Class::Unused,
+};
 
 // Every kind of line.
 pub const TABLE: [Entry; 17] = [
-    Entry { code: 1, kind: Kind::Head, role: Role::Head, classes: Six { first: Class::RoutineNumber, second: Class::VariableCount, third: Class::ArgumentCount, fourth: Class::GhostCount, fifth: Class::RowCount, sixth: Class::Unused }, weight: 0 },
-    Entry { code: 2, kind: Kind::Before, role: Role::Before, classes: UNUSED, weight: 0 },
-    Entry { code: 3, kind: Kind::After, role: Role::After, classes: UNUSED, weight: 0 },
-    Entry { code: 11, kind: Kind::Equal, role: Role::Atom, classes: ATOM, weight: 0 },
-    Entry { code: 12, kind: Kind::Unequal, role: Role::Atom, classes: ATOM, weight: 0 },
-    Entry { code: 13, kind: Kind::Cell, role: Role::Atom, classes: ATOM, weight: 0 },
-    Entry { code: 14, kind: Kind::Segment, role: Role::Atom, classes: ATOM, weight: 0 },
-    Entry { code: 21, kind: Kind::Set, role: Role::Row, classes: VARIABLE_VALUE, weight: 0 },
-    Entry { code: 22, kind: Kind::Load, role: Role::Row, classes: Six { first: Class::Variable, second: Class::Variable, third: Class::Unused, fourth: Class::Unused, fifth: Class::Unused, sixth: Class::Unused }, weight: 1 },
-    Entry { code: 23, kind: Kind::Store, role: Role::Row, classes: VARIABLE_VALUE, weight: 1 },
-    Entry { code: 24, kind: Kind::New, role: Role::Row, classes: VARIABLE, weight: 1 },
-    Entry { code: 25, kind: Kind::Free, role: Role::Row, classes: VARIABLE, weight: 1 },
-    Entry { code: 26, kind: Kind::Jump, role: Role::Row, classes: Six { first: Class::Target, second: Class::Unused, third: Class::Unused, fourth: Class::Unused, fifth: Class::Unused, sixth: Class::Unused }, weight: 0 },
-    Entry { code: 27, kind: Kind::Branch, role: Role::Row, classes: Six { first: Class::Value, second: Class::Value, third: Class::Target, fourth: Class::Unused, fifth: Class::Unused, sixth: Class::Unused }, weight: 0 },
-    Entry { code: 28, kind: Kind::Cut, role: Role::Row, classes: UNUSED, weight: 0 },
-    Entry { code: 29, kind: Kind::Call, role: Role::Row, classes: Six { first: Class::Variable, second: Class::RoutineNumber, third: Class::Value, fourth: Class::Value, fifth: Class::Named, sixth: Class::Named }, weight: 0 },
-    Entry { code: 30, kind: Kind::Done, role: Role::Row, classes: UNUSED, weight: 0 },
+    Entry {
+        code: 1,
+        kind: Kind::Head,
+        role: Role::Head,
+        classes: Six {
+            first: Class::RoutineNumber,
+            second: Class::VariableCount,
+            third: Class::ArgumentCount,
+            fourth: Class::GhostCount,
+            fifth: Class::RowCount,
+            sixth: Class::Unused,
+        },
+        weight: 0,
+    },
+    Entry {
+        code: 2,
+        kind: Kind::Before,
+        role: Role::Before,
+        classes: UNUSED,
+        weight: 0,
+    },
+    Entry {
+        code: 3,
+        kind: Kind::After,
+        role: Role::After,
+        classes: UNUSED,
+        weight: 0,
+    },
+    Entry {
+        code: 11,
+        kind: Kind::Equal,
+        role: Role::Atom,
+        classes: ATOM,
+        weight: 0,
+    },
+    Entry {
+        code: 12,
+        kind: Kind::Unequal,
+        role: Role::Atom,
+        classes: ATOM,
+        weight: 0,
+    },
+    Entry {
+        code: 13,
+        kind: Kind::Cell,
+        role: Role::Atom,
+        classes: ATOM,
+        weight: 0,
+    },
+    Entry {
+        code: 14,
+        kind: Kind::Segment,
+        role: Role::Atom,
+        classes: ATOM,
+        weight: 0,
+    },
+    Entry {
+        code: 21,
+        kind: Kind::Set,
+        role: Role::Row,
+        classes: VARIABLE_VALUE,
+        weight: 0,
+    },
+    Entry {
+        code: 22,
+        kind: Kind::Load,
+        role: Role::Row,
+        classes: Six {
+            first: Class::Variable,
+            second: Class::Variable,
+            third: Class::Unused,
+            fourth: Class::Unused,
+            fifth: Class::Unused,
+            sixth: Class::Unused,
+        },
+        weight: 1,
+    },
+    Entry {
+        code: 23,
+        kind: Kind::Store,
+        role: Role::Row,
+        classes: VARIABLE_VALUE,
+        weight: 1,
+    },
+    Entry {
+        code: 24,
+        kind: Kind::New,
+        role: Role::Row,
+        classes: VARIABLE,
+        weight: 1,
+    },
+    Entry {
+        code: 25,
+        kind: Kind::Free,
+        role: Role::Row,
+        classes: VARIABLE,
+        weight: 1,
+    },
+    Entry {
+        code: 26,
+        kind: Kind::Jump,
+        role: Role::Row,
+        classes: Six {
+            first: Class::Target,
+            second: Class::Unused,
+            third: Class::Unused,
+            fourth: Class::Unused,
+            fifth: Class::Unused,
+            sixth: Class::Unused,
+        },
+        weight: 0,
+    },
+    Entry {
+        code: 27,
+        kind: Kind::Branch,
+        role: Role::Row,
+        classes: Six {
+            first: Class::Value,
+            second: Class::Value,
+            third: Class::Target,
+            fourth: Class::Unused,
+            fifth: Class::Unused,
+            sixth: Class::Unused,
+        },
+        weight: 0,
+    },
+    Entry {
+        code: 28,
+        kind: Kind::Cut,
+        role: Role::Row,
+        classes: UNUSED,
+        weight: 0,
+    },
+    Entry {
+        code: 29,
+        kind: Kind::Call,
+        role: Role::Row,
+        classes: Six {
+            first: Class::Variable,
+            second: Class::RoutineNumber,
+            third: Class::Value,
+            fourth: Class::Value,
+            fifth: Class::Named,
+            sixth: Class::Named,
+        },
+        weight: 0,
+    },
+    Entry {
+        code: 30,
+        kind: Kind::Done,
+        role: Role::Row,
+        classes: UNUSED,
+        weight: 0,
+    },
 ];
 
 // The first entry that has the number.
@@ -163,7 +330,11 @@ fn is_allowed(scope: &Scope, class: Class, value: u16) -> bool
 fn operand(scope: &Scope, class: Class, value: u16) -> Option<u8>
     ensures { λ r. ⌜ r ≡ cond (allowed (now (scope .entry)) class value) (Some value) None ⌝ }
 {
-    if is_allowed(scope, class, value) { Some(value as u8) } else { None }
+    if is_allowed(scope, class, value) {
+        Some(value as u8)
+    } else {
+        None
+    }
 }
 
 // The six columns, if each holds what it may hold.
@@ -176,5 +347,12 @@ pub(crate) fn operands(scope: &Scope, classes: &Six<Class>, values: &Six<u16>) -
     let fourth = operand(scope, classes.fourth, values.fourth)?;
     let fifth = operand(scope, classes.fifth, values.fifth)?;
     let sixth = operand(scope, classes.sixth, values.sixth)?;
-    Some(Six { first, second, third, fourth, fifth, sixth })
+    Some(Six {
+        first,
+        second,
+        third,
+        fourth,
+        fifth,
+        sixth,
+    })
 }

@@ -21,7 +21,16 @@ use heap::Fault;
 fn new_body() -> Body
     ensures { λ r. ⌜ r ≡ laid newRoutine ⌝ }
 {
-    Body { own: 0, variables: 1, arguments: 0, ghosts: 0, before: empty_list(), after: empty_list(), rows: [Row::Done; ROWS], count: 1 }
+    Body {
+        own: 0,
+        variables: 1,
+        arguments: 0,
+        ghosts: 0,
+        before: empty_list(),
+        after: empty_list(),
+        rows: [Row::Done; ROWS],
+        count: 1,
+    }
 }
 
 impl Sheet {

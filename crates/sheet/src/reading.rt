@@ -24,13 +24,27 @@ use layout::scan;
 fn blank() -> Body
     ensures { λ r. ⌜ r ≡ laid nothing ⌝ }
 {
-    Body { own: 0, variables: 0, arguments: 0, ghosts: 0, before: empty_list(), after: empty_list(), rows: [Row::Done; ROWS], count: 0 }
+    Body {
+        own: 0,
+        variables: 0,
+        arguments: 0,
+        ghosts: 0,
+        before: empty_list(),
+        after: empty_list(),
+        rows: [Row::Done; ROWS],
+        count: 0,
+    }
 }
 
 fn started() -> Draft
     ensures { λ r. ⌜ r ≡ laidProgress start ⌝ }
 {
-    Draft { stage: Stage::Start, promised: 0, atoms: 0, body: blank() }
+    Draft {
+        stage: Stage::Start,
+        promised: 0,
+        atoms: 0,
+        body: blank(),
+    }
 }
 
 // All lines, or the first that is wrong.

@@ -19,22 +19,51 @@ pub struct AtomList {
 #[derive(Clone, Copy)]
 pub enum Row {
     // `into` becomes the value of `from`
-    Set { into: Name, from: Name },
+    Set {
+        into: Name,
+        from: Name,
+    },
     // `into` becomes the link of the cell
-    Load { into: Name, cell: Name },
+    Load {
+        into: Name,
+        cell: Name,
+    },
     // the link of the cell becomes the value of `link`
-    Store { cell: Name, link: Name },
+    Store {
+        cell: Name,
+        link: Name,
+    },
     // `into` becomes the address of a new cell
-    New { into: Name },
+    New {
+        into: Name,
+    },
     // the cell is freed
-    Free { cell: Name },
-    Jump { to: u8 },
+    Free {
+        cell: Name,
+    },
+    Jump {
+        to: u8,
+    },
     // to row `to` if the values are equal
-    Branch { left: Name, right: Name, to: u8 },
+    Branch {
+        left: Name,
+        right: Name,
+        to: u8,
+    },
     // an assertion between two pieces
-    Cut { list: AtomList },
+    Cut {
+        list: AtomList,
+    },
     // `into` becomes the result of a routine; the frame is what the call leaves alone
-    Call { into: Name, routine: u8, first: Name, second: Name, first_ghost: Name, second_ghost: Name, frame: AtomList },
+    Call {
+        into: Name,
+        routine: u8,
+        first: Name,
+        second: Name,
+        first_ghost: Name,
+        second_ghost: Name,
+        frame: AtomList,
+    },
     // the end; the result is variable 1
     Done,
 }

@@ -15,10 +15,10 @@ loop-byte-again c =
     let t = c .loop-byte-test .taken in
     let s = c .loop-byte .inv .0 in
     let n = c .loop-byte .inv .1 in
-    let r = c .pre .room in
-    ( length-set (l .bytes) (l .count) (getD p i 0) ∙ s
-    , omega arith
-    , byte-more (l .bytes) p (shown (c .args .line .now)) (l .count) i (omega arith) t (c .loop-byte .inv .2)
+    let r = c .pre .room in (
+      length-set (l .bytes) (l .count) (getD p i 0) ∙ s,
+      omega arith,
+      byte-more (l .bytes) p (shown (c .args .line .now)) (l .count) i (omega arith) t (c .loop-byte .inv .2),
     )
 
 pub returns : need.returns
@@ -31,5 +31,5 @@ returns c =
     record {
       text = bytes-all (shown (c .loop-byte .line)) p (shown (c .args .line .now)) i t (c .loop-byte .inv .2);
       count = omega arith;
-      size = c .loop-byte .inv .0
+      size = c .loop-byte .inv .0;
     }

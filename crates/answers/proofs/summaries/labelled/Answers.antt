@@ -17,10 +17,10 @@ returns c =
     let l = ap (λ w. length w) (c .column .ensures) in
     record {
       text =
-        c .add-2 .ensures .text
-        ∙ (ap (λ xs. xs ++ c .column .result) (c .add .ensures .text)
-        ∙ (append-assoc (shown (c .args .line .now)) (c .args .label .now) (c .column .result)
-        ∙ ap (λ w. shown (c .args .line .now) ++ (c .args .label .now ++ w)) (c .column .ensures)));
+          c .add-2 .ensures .text
+          ∙ (ap (λ xs. xs ++ c .column .result) (c .add .ensures .text)
+          ∙ (append-assoc (shown (c .args .line .now)) (c .args .label .now) (c .column .result)
+          ∙ ap (λ w. shown (c .args .line .now) ++ (c .args .label .now ++ w)) (c .column .ensures)));
       count = omega arith;
-      size = c .add-2 .ensures .size
+      size = c .add-2 .ensures .size;
     }

@@ -9,5 +9,5 @@ use Rattle.layout.proofs.columns.number.Needs as need
 pub returns-else-eq : need.returns-else-eq
 returns-else-eq c =
     no-number (c .args .word .now) (c .as-slice .result .now)
-      (c .as-slice .ensures ∙ (c .column-written .ensures ∙ ap columnOf (c .value-n .ensures)))
-      (λ e. both-ways (c .eq .result) (c .if-eq .left) (matches-decides _ _ _ (c .eq .ensures) .1 e))
+    (c .as-slice .ensures ∙ (c .column-written .ensures ∙ ap columnOf (c .value-n .ensures)))
+    (λ e. both-ways (c .eq .result) (c .if-eq .left) (matches-decides _ _ _ (c .eq .ensures) .1 e))

@@ -21,9 +21,9 @@ returns-in-rest c =
     let k = c .loop-k .k in
     let g : badLength (length t) ≡ false = grind (arith, tells) in
     let d = good-length t g
-      ∙ (broken-line t (length t / 29) k (take k (c .loop-k .lines)) (c .loop-k .inv .1)
-          (sym (ap numbersIn (part-is t k)) ∙ (sym (c .parse .ensures) ∙ c .in-rest .is)) (c .loop-k-test .taken)
-      ∙ ap Err (rw add-one at (sym (c .at-in-rest .ensures)))) in
+    ∙ (broken-line t (length t / 29) k (take k (c .loop-k .lines)) (c .loop-k .inv .1)
+    (sym (ap numbersIn (part-is t k)) ∙ (sym (c .parse .ensures) ∙ c .in-rest .is)) (c .loop-k-test .taken)
+    ∙ ap Err (rw add-one at (sym (c .at-in-rest .ensures)))) in
     record { defined = d; written = texts-refused t _ d }
 
 pub loop-k-again : need.loop-k-again
@@ -32,10 +32,10 @@ loop-k-again c =
     let k = c .loop-k .k in
     let ls = c .loop-k .lines in
     let n = c .in-Some .numbers in
-    let m : k < length ls = omega arith in
-    ( length-set ls k n ∙ c .loop-k .inv .0
-    , rw (take-more-set ls k n m, add-one) (one-line t k (take k ls) n (c .loop-k .inv .1)
-        (sym (ap numbersIn (part-is t k)) ∙ (sym (c .parse .ensures) ∙ c .in-Some .is)))
+    let m : k < length ls = omega arith in (
+      length-set ls k n ∙ c .loop-k .inv .0,
+      rw (take-more-set ls k n m, add-one) (one-line t k (take k ls) n (c .loop-k .inv .1)
+          (sym (ap numbersIn (part-is t k)) ∙ (sym (c .parse .ensures) ∙ c .in-Some .is))),
     )
 
 pub returns-then-is-empty : need.returns-then-is-empty

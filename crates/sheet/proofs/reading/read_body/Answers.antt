@@ -38,8 +38,8 @@ returns-in-Break-finish c =
     let a = d .0 in
     let b = d .1 in
     rw (p .1, p .2)
-      (decided (c .args .text .now) (take (s .count - 0) (s .lines)) (c .in-Continue-draft .draft) (s .count) (cut-lines (c .args .text .now) (s .count) (s .lines) (d .2)) (c .in-Continue-draft .ensures tt) (length-cut (s .count) (s .lines) (omega arith))
-      ∙ c .in-Break-finish .ensures tt)
+    (decided (c .args .text .now) (take (s .count - 0) (s .lines)) (c .in-Continue-draft .draft) (s .count) (cut-lines (c .args .text .now) (s .count) (s .lines) (d .2)) (c .in-Continue-draft .ensures tt) (length-cut (s .count) (s .lines) (omega arith))
+    ∙ c .in-Break-finish .ensures tt)
 
 pub returns : need.returns
 returns c =
@@ -47,7 +47,7 @@ returns c =
     let d = c .in-Continue-scanned .ensures tt .defined in
     let a = d .0 in
     let b = d .1 in
-    let r = c .in-Continue-draft .ensures tt in
-    ( decided (c .args .text .now) (take (s .count - 0) (s .lines)) (c .in-Continue-draft .draft) (s .count) (cut-lines (c .args .text .now) (s .count) (s .lines) (d .2)) r (length-cut (s .count) (s .lines) (omega arith)) ∙ c .in-Continue-finish .ensures tt
-    , draft-laid (c .in-Continue-draft .draft) (take (s .count - 0) (s .lines)) r
+    let r = c .in-Continue-draft .ensures tt in (
+      decided (c .args .text .now) (take (s .count - 0) (s .lines)) (c .in-Continue-draft .draft) (s .count) (cut-lines (c .args .text .now) (s .count) (s .lines) (d .2)) r (length-cut (s .count) (s .lines) (omega arith)) ∙ c .in-Continue-finish .ensures tt,
+      draft-laid (c .in-Continue-draft .draft) (take (s .count - 0) (s .lines)) r,
     )

@@ -17,7 +17,7 @@ add-requires c κs =
     let v = c .args .line .now .operands in
     record {
       count = c .pre .count;
-      room = room-for d e v (nothing-found d e v (c .in-Continue-columns .columns) (sym (c .in-Continue-columns .ensures tt)) .0) (c .pre .promised)
+      room = room-for d e v (nothing-found d e v (c .in-Continue-columns .columns) (sym (c .in-Continue-columns .ensures tt)) .0) (c .pre .promised);
     }
 
 pub returns : need.returns

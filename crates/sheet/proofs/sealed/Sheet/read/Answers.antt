@@ -16,12 +16,12 @@ returns-in-Break-self c =
     let h = c .in-Break-self .ensures tt in
     let t = c .args .text .now in
     rw (p .1, p .2)
-      (record {
-        answer = answer-is t _ h;
-        sheet = filled-is t (c .args .self .now .body) _ h;
-        written = refusals-first t _ h;
-        every = λ R w q. absurd (never-refused t _ R h w q)
-      })
+    (record {
+      answer = answer-is t _ h;
+      sheet = filled-is t (c .args .self .now .body) _ h;
+      written = refusals-first t _ h;
+      every = λ R w q. absurd (never-refused t _ R h w q);
+    })
 
 pub ghost-self : need.ghost-self
 ghost-self c =
@@ -38,5 +38,5 @@ returns c =
       answer = answer-is t _ (h .0);
       sheet = h .1 ∙ filled-is t (c .args .self .now .body) _ (h .0);
       written = reads-text t (routineIn b) (h .0);
-      every = λ R w q. (refl, reads-itself t b R (h .0) (h .1) w q)
+      every = λ R w q. (refl, reads-itself t b R (h .0) (h .1) w q);
     }

@@ -25,8 +25,8 @@ returns-then-is-heavy c =
     sym (start-light (rowsIn b) (let z = w 0 in omega arith)
     ∙ (sym (c .loop-i .inv)
     ∙ heavy-here (rowsIn b) i (c .is-heavy .result) (omega arith)
-        (c .is-heavy .ensures ∙ (ap (λ x. opens x && ltb 8 (getD (c .weights-found .result) (i + 1) 0)) (row-in b i (c .pre) (omega arith)) ∙ ap (λ x. opens (getD (rowsIn b) i done) && ltb 8 x) (w (i + 1))))
-        (c .if-is-heavy .taken)))
+    (c .is-heavy .ensures ∙ (ap (λ x. opens x && ltb 8 (getD (c .weights-found .result) (i + 1) 0)) (row-in b i (c .pre) (omega arith)) ∙ ap (λ x. opens (getD (rowsIn b) i done) && ltb 8 x) (w (i + 1))))
+    (c .if-is-heavy .taken)))
 
 pub loop-i-again : need.loop-i-again
 loop-i-again c =
@@ -36,8 +36,8 @@ loop-i-again c =
     let i = c .loop-i .i in
     let w = c .weights-found .ensures .entries in
     sym (heavy-later (rowsIn b) i (c .is-heavy .result) (omega arith)
-        (c .is-heavy .ensures ∙ (ap (λ x. opens x && ltb 8 (getD (c .weights-found .result) (i + 1) 0)) (row-in b i (c .pre) (omega arith)) ∙ ap (λ x. opens (getD (rowsIn b) i done) && ltb 8 x) (w (i + 1))))
-        (c .if-is-heavy .left))
+    (c .is-heavy .ensures ∙ (ap (λ x. opens x && ltb 8 (getD (c .weights-found .result) (i + 1) 0)) (row-in b i (c .pre) (omega arith)) ∙ ap (λ x. opens (getD (rowsIn b) i done) && ltb 8 x) (w (i + 1))))
+    (c .if-is-heavy .left))
     ∙ c .loop-i .inv
 
 pub returns : need.returns

@@ -8,11 +8,11 @@ use Rattle.sheet.proofs.sheets.Body.is_misplaced.Needs as need
 pub returns-then-i-self : need.returns-then-i-self
 returns-then-i-self c =
     misplaced-last (rowsIn (c .args .self .now)) (commandIn (c .row-at-row .result)) (c .args .i) (c .args .self .now .count) (c .may-end .result)
-      (c .row-at-row .ensures) (length-rows (c .args .self .now) (c .pre))
-      (sym (c .has-bad-target .ensures) ∙ c .if-has-bad-target .left) (c .if-i-self .taken) (c .may-end .ensures)
+    (c .row-at-row .ensures) (length-rows (c .args .self .now) (c .pre))
+    (sym (c .has-bad-target .ensures) ∙ c .if-has-bad-target .left) (c .if-i-self .taken) (c .may-end .ensures)
 
 pub returns-else-i-self : need.returns-else-i-self
 returns-else-i-self c =
     misplaced-inner (rowsIn (c .args .self .now)) (commandIn (c .row-at-row .result)) (c .args .i) (c .args .self .now .count)
-      (c .row-at-row .ensures) (length-rows (c .args .self .now) (c .pre))
-      (sym (c .has-bad-target .ensures) ∙ c .if-has-bad-target .left) (c .if-i-self .left)
+    (c .row-at-row .ensures) (length-rows (c .args .self .now) (c .pre))
+    (sym (c .has-bad-target .ensures) ∙ c .if-has-bad-target .left) (c .if-i-self .left)
