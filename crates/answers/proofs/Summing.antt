@@ -1,36 +1,22 @@
 -- The pieces of a summary in a row, and the counts in it.
-use mathlib.Core.Path.{_≡_, refl, sym, _∙_, ap, subst}
+use mathlib.Core.Path.{_≡_, refl, _∙_, ap}
 use mathlib.Core.List.{List, [], _∷_, _++_, map}
-use Prim.Native.Nat.{ℕ, zero, suc, _+_, _-_}
+use Prim.Native.Nat.{ℕ, _+_}
 use native.Mathlib.Omega.{arith}
 use lib.Chars.{codes}
-use lib.ListN.{length, replicate}
+use lib.ListN.{length, length-map}
 use Rattle.std.proofs.shelf.Lists.{append-assoc}
-use Rattle.layout.specs.Columns.{columnOf}
 use Rattle.sheet.specs.Routines.{Command, assign, load, store, new, free, jump, branch, cut, call, done, Routine, atomsBehind, total, listOf}
 use Rattle.sheet.specs.declared.rows.Row.{Row}
-use Rattle.sheet.specs.declared.rows.Row.the-variants as row
-use Rattle.sheet.specs.declared.sheets.Body.{Body}
-use Rattle.sheet.specs.Laid.{filled, laidRow, laid, routineIn}
-use Rattle.std.specs.declared.result.Result.{Result}
-use Rattle.std.specs.declared.result.Result.the-variants.{Ok, Err}
-use Rattle.heap.specs.Faults.{Report}
-use Rattle.sheet.specs.Sheets.{answered, filledBy}
-use Rattle.sheet.proofs.LaidBack.{routine-back}
-use Rattle.answers.specs.Shown.{answerLine}
-use Rattle.answers.specs.Summaries.{item, summaryLine, lineFor, countRow, countRows}
+use Rattle.sheet.specs.declared.rows.AtomList.{AtomList}
+use Rattle.sheet.specs.declared.sheets.Head.{Head}
+use Rattle.sheet.specs.Laid.{laidList, laidRow}
+use Rattle.sheet.specs.Sheets.{headOf}
+use Rattle.answers.specs.Summaries.{item, summaryOf, summaryLine, countRow, countRows}
 
 in-a-row : {a b c d e f g h : List ℕ} (p q r s t u v : List ℕ) → a ≡ [] → b ≡ a ++ p → c ≡ b ++ q → d ≡ c ++ r → e ≡ d ++ s → f ≡ e ++ t → g ≡ f ++ u → h ≡ g ++ v
     → h ≡ p ++ (q ++ (r ++ (s ++ (t ++ (u ++ v)))))
 in-a-row p q r s t u v ea eb ec ed ee ef eg eh = rw (eh, eg, ef, ee, ed, ec, eb, ea) (simp append-assoc)
-
-count-append : (xs ys : List Row) → countRows (xs ++ ys) ≡ countRows xs + countRows ys
-count-append [] ys = omega arith
-count-append (x ∷ xs) ys = let h = count-append xs ys in omega arith
-
-count-filling : (n : ℕ) → countRows (replicate n row.Done) ≡ 0
-count-filling zero = refl
-count-filling (suc n) = let h = count-filling n in omega arith
 
 count-one : (c : Command) → countRow (laidRow c) ≡ length (listOf c)
 count-one (assign x e) = refl
@@ -48,32 +34,25 @@ count-laid : (cs : List Command) → countRows (map laidRow cs) ≡ atomsBehind 
 count-laid [] = refl
 count-laid (c ∷ cs) = let h = count-laid cs in let o = count-one c in omega arith
 
-all-laid : (R : Routine) → laid R .before .count + laid R .after .count + countRows (laid R .rows) ≡ total R
-all-laid R =
-    let a = count-append (map laidRow (R .rows)) (replicate (40 - length (map laidRow (R .rows))) row.Done) in
-    let b = count-filling (40 - length (map laidRow (R .rows))) in
+same-summary : {a b c d e f g h i j k l : ℕ} → a ≡ g → b ≡ h → c ≡ i → d ≡ j → e ≡ k → f ≡ l → summaryOf a b c d e f ≡ summaryOf g h i j k l
+same-summary ea eb ec ed ee ef = rw (ea, eb, ec, ed, ee, ef)
+
+-- the atoms of a routine, counted where they lie
+atoms-of : (R : Routine) (b a : AtomList) (rs : List Row) → b ≡ laidList (R .before) → a ≡ laidList (R .after) → rs ≡ map laidRow (R .rows) → b .count + a .count + countRows rs ≡ total R
+atoms-of R b a rs eb ea er =
+    let x = ap (λ l. l .count) eb in
+    let y = ap (λ l. l .count) ea in
+    let z = ap countRows er in
     let c = count-laid (R .rows) in
     omega arith
 
--- the atoms of a body in which a routine lies
-atoms-of : (b : Body) → b ≡ laid (routineIn b) → b .before .count + b .after .count + countRows (b .rows) ≡ total (routineIn b)
-atoms-of b e = ap (λ x. x .before .count + x .after .count + countRows (x .rows)) e ∙ all-laid (routineIn b)
-
-pub summed : (b : Body) (n : ℕ) {a c d e f g h k : List ℕ} → b ≡ laid (routineIn b) → n ≡ b .before .count + b .after .count + countRows (b .rows)
-    → a ≡ [] → c ≡ a ++ (codes "routine" ++ columnOf (b .own)) → d ≡ c ++ (codes " variables" ++ columnOf (b .variables))
-    → e ≡ d ++ (codes " arguments" ++ columnOf (b .arguments)) → f ≡ e ++ (codes " ghosts" ++ columnOf (b .ghosts))
-    → g ≡ f ++ (codes " rows" ++ columnOf (b .count)) → h ≡ g ++ (codes " atoms" ++ columnOf n) → k ≡ h ++ (10 ∷ [])
-    → k ≡ summaryLine (routineIn b)
-summed b n l m ea ec ed ee ef eg eh ek =
-    in-a-row (item (codes "routine") (b .own)) (item (codes " variables") (b .variables)) (item (codes " arguments") (b .arguments)) (item (codes " ghosts") (b .ghosts)) (item (codes " rows") (b .count)) (item (codes " atoms") n) (10 ∷ []) ea ec ed ee ef eg eh ek
-    ∙ (ap (λ x. item (codes "routine") (b .own) ++ (item (codes " variables") (b .variables) ++ (item (codes " arguments") (b .arguments) ++ (item (codes " ghosts") (b .ghosts) ++ (item (codes " rows") x ++ (item (codes " atoms") n ++ (10 ∷ []))))))) (ap (λ x. x .count) l)
-    ∙ ap (λ x. item (codes "routine") (b .own) ++ (item (codes " variables") (b .variables) ++ (item (codes " arguments") (b .arguments) ++ (item (codes " ghosts") (b .ghosts) ++ (item (codes " rows") (length (routineIn b .rows)) ++ (item (codes " atoms") x ++ (10 ∷ []))))))) (m ∙ atoms-of b l))
-
--- the line by how the text reads
-pub line-read : (o : Result Routine Report) (old filled-now : Body) → Ok tt ≡ answered o → filled-now ≡ filledBy old o → summaryLine (routineIn filled-now) ≡ lineFor o
-line-read (Ok R) old b a e = ap summaryLine (ap routineIn e ∙ routine-back R)
-line-read (Err x) old b a e = let z : _≡_ {A = ℕ} 0 1 = cc in absurd (omega arith)
-
-pub line-refused : (o : Result Routine Report) (e : Report) → Err e ≡ answered o → answerLine (e .number) (e .place) ≡ lineFor o
-line-refused (Ok R) e a = let z : _≡_ {A = ℕ} 0 1 = cc in absurd (omega arith)
-line-refused (Err x) e a = let s : e ≡ x = cc in ap (λ y. answerLine (y .number) (y .place)) s
+pub summed : (R : Routine) (h : Head) (b a : AtomList) (rs : List Row) (n : ℕ) {l0 l1 l2 l3 l4 l5 l6 l7 : List ℕ}
+    → h ≡ headOf R → b ≡ laidList (R .before) → a ≡ laidList (R .after) → rs ≡ map laidRow (R .rows) → n ≡ b .count + a .count + countRows rs
+    → l0 ≡ [] → l1 ≡ l0 ++ item (codes "routine") (h .own) → l2 ≡ l1 ++ item (codes " variables") (h .variables)
+    → l3 ≡ l2 ++ item (codes " arguments") (h .arguments) → l4 ≡ l3 ++ item (codes " ghosts") (h .ghosts)
+    → l5 ≡ l4 ++ item (codes " rows") (length rs) → l6 ≡ l5 ++ item (codes " atoms") n → l7 ≡ l6 ++ (10 ∷ [])
+    → l7 ≡ summaryLine R
+summed R h b a rs n eh eb ea er en e0 e1 e2 e3 e4 e5 e6 e7 =
+    in-a-row (item (codes "routine") (h .own)) (item (codes " variables") (h .variables)) (item (codes " arguments") (h .arguments)) (item (codes " ghosts") (h .ghosts)) (item (codes " rows") (length rs)) (item (codes " atoms") n) (10 ∷ []) e0 e1 e2 e3 e4 e5 e6 e7
+    ∙ same-summary (ap (λ x. x .own) eh) (ap (λ x. x .variables) eh) (ap (λ x. x .arguments) eh) (ap (λ x. x .ghosts) eh)
+    (ap (λ x. length x) er ∙ length-map (R .rows) laidRow) (en ∙ atoms-of R b a rs eb ea er)

@@ -16,10 +16,13 @@ use Rattle.sheet.specs.declared.rows.Row.the-variants.{Set, Load, Store, New, F
 abbrev pub item : List ℕ → ℕ → List ℕ
 item label n = label ++ columnOf n
 
+abbrev pub summaryOf : ℕ → ℕ → ℕ → ℕ → ℕ → ℕ → List ℕ
+summaryOf own variables arguments ghosts rows atoms =
+    item (codes "routine") own ++ (item (codes " variables") variables ++ (item (codes " arguments") arguments
+    ++ (item (codes " ghosts") ghosts ++ (item (codes " rows") rows ++ (item (codes " atoms") atoms ++ (10 ∷ []))))))
+
 abbrev pub summaryLine : Routine → List ℕ
-summaryLine R =
-    item (codes "routine") (R .own) ++ (item (codes " variables") (R .variables) ++ (item (codes " arguments") (R .arguments)
-    ++ (item (codes " ghosts") (R .ghosts) ++ (item (codes " rows") (length (R .rows)) ++ (item (codes " atoms") (total R) ++ (10 ∷ []))))))
+summaryLine R = summaryOf (R .own) (R .variables) (R .arguments) (R .ghosts) (length (R .rows)) (total R)
 
 -- what is printed for a text, by how it reads
 abbrev pub lineFor : Result Routine Report → List ℕ

@@ -55,14 +55,15 @@ fn labelled(line: &mut Shown, label: &[u8], n: u16)
 pub fn summary(sheet: &Sheet) -> Shown
     ensures { λ r. ⌜ shown r ≡ summaryLine (routineOf (now (sheet .entry))) ⌝ }
 {
-    let body = sheet.body();
-    let atoms = body.before.count as u16 + body.after.count as u16 + atoms_in(&body.rows);
+    let head = sheet.head();
+    let rows = sheet.rows();
+    let atoms = sheet.before().count as u16 + sheet.after().count as u16 + atoms_in(rows);
     let mut line = nothing();
-    labelled(&mut line, b"routine", body.own as u16);
-    labelled(&mut line, b" variables", body.variables as u16);
-    labelled(&mut line, b" arguments", body.arguments as u16);
-    labelled(&mut line, b" ghosts", body.ghosts as u16);
-    labelled(&mut line, b" rows", body.count as u16);
+    labelled(&mut line, b"routine", head.own as u16);
+    labelled(&mut line, b" variables", head.variables as u16);
+    labelled(&mut line, b" arguments", head.arguments as u16);
+    labelled(&mut line, b" ghosts", head.ghosts as u16);
+    labelled(&mut line, b" rows", rows.len() as u16);
     labelled(&mut line, b" atoms", atoms);
     add(&mut line, b"\n");
     line

@@ -3,6 +3,8 @@ use mathlib.Core.Path.{_≡_, refl, sym, _∙_, ap, subst}
 use mathlib.Core.List.{List, [], _∷_, _++_, map}
 use mathlib.Core.Bool.{true, false}
 use Prim.Native.Nat.{ℕ, suc, _+_, _-_, _≤_, _<_}
+use mathlib.Core.Logic.{∥∥₁-elim}
+use native.Mathlib.Bridge.{le-prop}
 use native.Mathlib.Omega.{arith}
 use lib.ListN.{length, take, replicate, length-map}
 use Rattle.std.specs.declared.option.Option.the-variants.{None}
@@ -90,3 +92,12 @@ new-formed = record {
   in-place = new-in-place;
   light = heavy-none (newRoutine .rows) new-in-place refl;
 }
+
+-- what a sheet's type says of its rows
+pub few-rows-in : (b : Body) → ∥ WellFormed (routineIn b) ∥₁ → b ≡ laid (routineIn b) → b .count ≤ 40
+few-rows-in b w e = subst (λ n. n ≤ 40) (sym (ap (λ x. x .count) e)) (∥∥₁-elim w le-prop (λ f. f .few-rows))
+
+pub rows-laid : (b : Body) → b ≡ laid (routineIn b) → take (b .count) (b .rows) ≡ map laidRow (routineIn b .rows)
+rows-laid b e =
+    ap (λ x. take (x .count) (x .rows)) e
+    ∙ take-at (map laidRow (routineIn b .rows)) (replicate (40 - length (map laidRow (routineIn b .rows))) row.Done) (length (routineIn b .rows)) (length-map (routineIn b .rows) laidRow)

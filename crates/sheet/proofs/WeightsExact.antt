@@ -275,4 +275,4 @@ pub most-exact : (rows : List Command) → InPlace rows → (k : ℕ) → Most r
 most-exact rows p k =
     let e : suc k - 1 ≡ k = omega arith in
     subst (λ n. Most rows (suc k) (getD (weights 1 rows) n 0)) e
-      (record { reached = way-there rows p (suc k) (omega arith); greatest = λ v w. way-bounded rows p (omega arith) w })
+    (record { reached = way-there rows p (suc k) (omega arith); greatest = λ v w. way-bounded rows p (omega arith) w })

@@ -7,12 +7,16 @@ use Rattle.std.specs.declared.result.Result.the-variants.{Ok, Err}
 use Rattle.heap.specs.declared.faults.Fault.{Fault}
 use Rattle.heap.specs.Faults.{Report, report}
 use Rattle.sheet.specs.declared.sheets.Body.{Body}
+use Rattle.sheet.specs.declared.sheets.Head.{Head}
 use Rattle.sheet.specs.Routines.{Routine, done}
 use Rattle.sheet.specs.Laid.{laid}
 
 -- routine 0 with one variable, no arguments or ghosts, empty lists and the single row 30
 abbrev pub newRoutine : Routine
 newRoutine = record { own = 0; variables = 1; arguments = 0; ghosts = 0; before = []; after = []; rows = done ∷ [] }
+
+abbrev pub headOf : Routine → Head
+headOf R = record { own = R .own; variables = R .variables; arguments = R .arguments; ghosts = R .ghosts }
 
 -- what a call says: that it is done, or the five numbers of its fault
 abbrev pub said : {A : Type 0} → Result A Fault → Result A Report

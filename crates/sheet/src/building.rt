@@ -2,7 +2,7 @@
 ghost use mathlib.Core.Path.{_≡_};
 ghost use Prim.Native.Nat.{ℕ, _<_};
 ghost use Rattle.sheet.specs.Reading.{atomFor};
-ghost use Rattle.sheet.specs.ModelDrafts.{emptyList, pushed, rowFor, rowWith, openRow, shortBehind};
+ghost use Rattle.sheet.specs.ModelDrafts.{pushed, rowFor, rowWith, openRow, shortBehind};
 use crate::drafts::Open;
 use crate::kinds::Kind;
 use crate::rows::AtomList;
@@ -12,14 +12,11 @@ use heap::Atom;
 use heap::Name;
 use layout::Six;
 
-pub(crate) fn empty_list() -> AtomList
-    ensures { λ r. ⌜ r ≡ emptyList ⌝ }
-{
-    AtomList {
-        atoms: [Atom::Eq { left: 0, right: 0 }; LIST],
-        count: 0,
-    }
-}
+// A list of no atoms.
+pub(crate) const EMPTY: AtomList = AtomList {
+    atoms: [Atom::Eq { left: 0, right: 0 }; LIST],
+    count: 0,
+};
 
 pub(crate) fn push(list: &mut AtomList, atom: Atom)
     requires { ⌜ now list .count < 8 ⌝ }
@@ -87,7 +84,7 @@ pub(crate) fn row_for(kind: Kind, columns: &Six<u8>) -> Row
             right: second,
             to: third,
         },
-        Kind::Cut => Row::Cut { list: empty_list() },
+        Kind::Cut => Row::Cut { list: EMPTY },
         Kind::Call => Row::Call {
             into: first,
             routine: second,
@@ -95,7 +92,7 @@ pub(crate) fn row_for(kind: Kind, columns: &Six<u8>) -> Row
             second: fourth,
             first_ghost: fifth,
             second_ghost: sixth,
-            frame: empty_list(),
+            frame: EMPTY,
         },
         _ => Row::Done,
     }

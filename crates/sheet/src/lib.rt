@@ -13,4 +13,4 @@ mod sheets;
 pub use rows::AtomList;
 pub use rows::Row;
 pub use sealed::Sheet;
-pub use sheets::Body;
+pub use sheets::Head;

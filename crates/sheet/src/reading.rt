@@ -9,7 +9,7 @@ ghost use Rattle.heap.specs.Faults.{report};
 ghost use Rattle.sheet.specs.Laid.{laid, laidProgress, routineIn};
 ghost use Rattle.sheet.specs.Reading.{start, nothing, allLines, atRows, finished, reading};
 ghost use Rattle.sheet.specs.ModelReading.{Read, Sized, progressIn};
-use crate::building::empty_list;
+use crate::building::EMPTY;
 use crate::drafts::Draft;
 use crate::drafts::Stage;
 use crate::rows::ROWS;
@@ -29,8 +29,8 @@ fn blank() -> Body
         variables: 0,
         arguments: 0,
         ghosts: 0,
-        before: empty_list(),
-        after: empty_list(),
+        before: EMPTY,
+        after: EMPTY,
         rows: [Row::Done; ROWS],
         count: 0,
     }

@@ -9,5 +9,5 @@ use crate::sheets::Body;
 pub struct Sheet {
     pub(crate) body: Body,
     ghost formed: { ∥ WellFormed (routineIn body) ∥₁ },
-    ghost in_place: { body ≡ laid (routineIn body) },
+    ghost whole: { body ≡ laid (routineIn body) },
 }

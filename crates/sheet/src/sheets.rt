@@ -15,3 +15,12 @@ pub struct Body {
     pub rows: [Row; ROWS],
     pub count: u8,
 }
+
+// A routine's number, and how many variables, arguments and ghosts it has.
+#[derive(Clone, Copy)]
+pub struct Head {
+    pub own: u8,
+    pub variables: u8,
+    pub arguments: u8,
+    pub ghosts: u8,
+}

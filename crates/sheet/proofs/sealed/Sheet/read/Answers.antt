@@ -19,6 +19,7 @@ returns-in-Break-self c =
     (record {
       answer = answer-is t _ h;
       sheet = filled-is t (c .args .self .now .body) _ h;
+      reads = h;
       written = refusals-first t _ h;
       every = λ R w q. absurd (never-refused t _ R h w q);
     })
@@ -37,6 +38,7 @@ returns c =
     record {
       answer = answer-is t _ (h .0);
       sheet = h .1 ∙ filled-is t (c .args .self .now .body) _ (h .0);
+      reads = h .0;
       written = reads-text t (routineIn b) (h .0);
       every = λ R w q. (refl, reads-itself t b R (h .0) (h .1) w q);
     }
