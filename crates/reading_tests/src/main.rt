@@ -1,21 +1,25 @@
 // Reads every sheet that data/cases.txt names, and prints for each its name and the answer in two columns: 0 and 0, or the number and place of what is wrong.
+use answers::Shown;
 use answers::answer;
 use answers::refusal;
+use answers::summary;
 use sheet::Sheet;
 use std::error::AnyError;
 use std::fs;
 use std::io::Write;
 
-// The answer to one text.
-fn answered(rt: &LibcRuntime, text: &[u8]) -> Result<(), AnyError> {
-    let mut sheet = Sheet::new();
-    let line = match sheet.read(text) {
-        Ok(()) => answer(0, 0),
-        Err(fault) => refusal(&fault),
-    };
+fn print_line(rt: &LibcRuntime, line: &Shown) -> Result<(), AnyError> {
     let end = line.count.min(line.bytes.len());
     rt.stdout().write_all(&line.bytes[0..end])?;
     Ok(())
+}
+
+// The answer to one text.
+fn answered(sheet: &mut Sheet, text: &[u8]) -> Shown {
+    match sheet.read(text) {
+        Ok(()) => answer(0, 0),
+        Err(fault) => refusal(&fault),
+    }
 }
 
 // One line of the table: `= NAME NUMBER PLACE`.
@@ -28,7 +32,27 @@ fn case(rt: &LibcRuntime, line: &str) -> Result<(), AnyError> {
     print!(rt, "{name:<28}")?;
     let path = format!(rt.alloc(), "{name}.sheet")?;
     let text = fs::read(rt, path.as_str())?;
-    answered(rt, text.as_slice())
+    let line = answered(&mut Sheet::new(), text.as_slice());
+    print_line(rt, &line)
+}
+
+// A text of a megabyte, a whole number of lines long.
+fn megabyte(rt: &LibcRuntime) -> Result<(), AnyError> {
+    print!(rt, "{:<28}", "megabyte")?;
+    let text = vec![in rt.alloc(); b' '; 1_048_582]?;
+    let line = answered(&mut Sheet::new(), text.as_slice());
+    print_line(rt, &line)
+}
+
+// A sheet that read one text and refused the next still holds the first.
+fn kept(rt: &LibcRuntime) -> Result<(), AnyError> {
+    let mut sheet = Sheet::new();
+    for name in ["reverse.sheet", "tab.sheet"] {
+        let text = fs::read(rt, name)?;
+        let line = answered(&mut sheet, text.as_slice());
+        print_line(rt, &line)?;
+    }
+    print_line(rt, &summary(&sheet))
 }
 
 fn run(rt: &LibcRuntime) -> Result<(), AnyError> {
@@ -36,7 +60,8 @@ fn run(rt: &LibcRuntime) -> Result<(), AnyError> {
     for line in table.as_str().lines() {
         case(rt, line)?;
     }
-    Ok(())
+    megabyte(rt)?;
+    kept(rt)
 }
 
 fn main(rt: LibcRuntime) -> Result<(), AnyError> {
