@@ -4,7 +4,7 @@ use Prim.Native.Nat.{ℕ}
 use lib.ListN.{length, take}
 use lib.Chars.{codes}
 use Rattle.layout.specs.Columns.{columnOf}
-use Rattle.answers.specs.declared.lines.Shown.{Shown}
+use Rattle.answers.specs.declared.shown.Shown.{Shown}
 
 -- what a line shows
 abbrev pub shown : Shown → List ℕ

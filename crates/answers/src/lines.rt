@@ -5,17 +5,18 @@ ghost use Prim.Native.Nat.{ℕ, _+_, _≤_};
 ghost use lib.ListN.{length, take};
 ghost use Rattle.heap.specs.Faults.{report};
 ghost use Rattle.answers.specs.Shown.{shown, answerLine};
+use crate::shown::Shown;
+use crate::shown::WIDTH;
 use heap::Fault;
 use layout::column;
 
-// How long a line may be.
-pub const WIDTH: usize = 70;
-
-// A line to be printed: its first `count` bytes.
-#[derive(Clone, Copy)]
-pub struct Shown {
-    pub bytes: [u8; WIDTH],
-    pub count: usize,
+impl Shown {
+    // The bytes to be printed.
+    pub fn text(&self) -> &[u8]
+        ensures { λ r. ⌜ now r ≡ shown (now (self .entry)) ⌝ }
+    {
+        &self.bytes[0..self.count]
+    }
 }
 
 pub(crate) fn nothing() -> Shown

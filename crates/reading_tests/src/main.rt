@@ -9,8 +9,7 @@ use std::fs;
 use std::io::Write;
 
 fn print_line(rt: &LibcRuntime, line: &Shown) -> Result<(), AnyError> {
-    let end = line.count.min(line.bytes.len());
-    rt.stdout().write_all(&line.bytes[0..end])?;
+    rt.stdout().write_all(line.text())?;
     Ok(())
 }
 

@@ -93,8 +93,9 @@ pub(crate) fn read_body(text: &[u8]) -> Result<Body, Fault>
     ensures { λ r. ⌜ Cases r (λ b. (reading (now (text .entry)) ≡ Ok (routineIn b)) × (b ≡ laid (routineIn b))) (λ f. reading (now (text .entry)) ≡ Err (report f)) ⌝ }
 {
     let scanned = scan(text)?;
-    let draft = drafted(&scanned.lines[0..scanned.count])?;
-    draft.finish(scanned.count)?;
+    let lines = scanned.lines();
+    let draft = drafted(lines)?;
+    draft.finish(lines.len())?;
     let Draft { body, .. } = draft;
     Ok(body)
 }

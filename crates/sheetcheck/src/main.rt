@@ -11,8 +11,7 @@ fn run(rt: &LibcRuntime) -> Result<(), AnyError> {
     let mut text = Vec::new(rt.alloc());
     let _count = rt.stdin().take(ENOUGH).read_to_end(&mut text)?;
     let line = line_for(text.as_slice());
-    let end = line.count.min(line.bytes.len());
-    rt.stdout().write_all(&line.bytes[0..end])?;
+    rt.stdout().write_all(line.text())?;
     Ok(())
 }
 

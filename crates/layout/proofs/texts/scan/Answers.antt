@@ -52,4 +52,4 @@ returns c =
     let k : c .loop-k .k ≡ length t / 29 = grind (arith, tells) in
     let f : firstLines (length t / 29) t ≡ Ok (take (length t / 29) (c .loop-k .lines)) = subst (λ n. firstLines n t ≡ Ok (take n (c .loop-k .lines))) k (c .loop-k .inv .1) in
     let d = good-length t g ∙ f in
-    record { defined = (omega arith, c .loop-k .inv .0, d); written = texts-written t _ d }
+    record { defined = d; written = texts-written t _ d }
