@@ -6,10 +6,30 @@ ghost use lib.Dec.{ltb};
 ghost use lib.ListN.{length, getD};
 ghost use Rattle.sheet.specs.Flow.{rowAt, isCut, opens, ends, strays, badTarget, misplaced, InPlace, Most};
 ghost use Rattle.sheet.specs.Laid.{commandIn};
+ghost use Rattle.sheet.specs.Written.{commandKind};
 ghost use Rattle.sheet.specs.Reading.{firstMisplaced, heavyPiece, weights as weightsFrom};
 ghost use Rattle.sheet.specs.ModelReading.{Sized, rowsIn, weighsIn};
+use crate::kinds::Kind;
+use crate::kinds::weight_for;
 use crate::rows::Row;
 use crate::sheets::Body;
+
+fn kind_of(row: &Row) -> Kind
+    ensures { λ r. ⌜ r ≡ commandKind (commandIn (now (row .entry))) ⌝ }
+{
+    match row {
+        Row::Set { .. } => Kind::Set,
+        Row::Load { .. } => Kind::Load,
+        Row::Store { .. } => Kind::Store,
+        Row::New { .. } => Kind::New,
+        Row::Free { .. } => Kind::Free,
+        Row::Jump { .. } => Kind::Jump,
+        Row::Branch { .. } => Kind::Branch,
+        Row::Cut { .. } => Kind::Cut,
+        Row::Call { .. } => Kind::Call,
+        Row::Done => Kind::Done,
+    }
+}
 
 fn is_cut(row: &Row) -> bool
     ensures { λ r. ⌜ r ≡ isCut (commandIn (now (row .entry))) ⌝ }
@@ -114,12 +134,10 @@ fn weight_of(row: &Row, i: usize, weights: &[u8]) -> u8
     ensures { λ x. ⌜ x ≡ weighsIn (commandIn (now (row .entry))) i (now (weights .entry)) ⌝ }
 {
     match row {
-        Row::Set { .. } => entry_at(weights, i),
-        Row::Load { .. } | Row::Store { .. } | Row::New { .. } | Row::Free { .. } => 1
-            + entry_at(weights, i),
         Row::Jump { to } => weight_ahead(weights, i, *to as usize),
         Row::Branch { to, .. } => entry_at(weights, i).max(weight_ahead(weights, i, *to as usize)),
         Row::Cut { .. } | Row::Call { .. } | Row::Done => 0,
+        _ => weight_for(kind_of(row)) + entry_at(weights, i),
     }
 }
 

@@ -1,9 +1,9 @@
 // The kinds of lines, and the table of what each column may hold.
 ghost use mathlib.Core.Path.{_≡_};
 ghost use mathlib.Core.Bool.{true, cond};
-ghost use Prim.Native.Nat.{ℕ, _<_};
+ghost use Prim.Native.Nat.{ℕ, _<_, _≤_};
 ghost use Rattle.std.specs.declared.option.Option.the-variants.{Some, None};
-ghost use Rattle.sheet.specs.Kinds.{table, entryFor, nameable, allowed, fits};
+ghost use Rattle.sheet.specs.Kinds.{table, entryFor, nameable, allowed, fits, weightOf};
 use layout::Six;
 
 // What a line is.
@@ -295,6 +295,14 @@ pub(crate) fn entry_for(code: u16) -> Option<Entry>
     ensures { λ r. ⌜ r ≡ entryFor code table ⌝ }
 {
     found_in(&TABLE, code)
+}
+
+// What a row of the kind adds to the weight of a piece. The table has the kinds in their order.
+pub(crate) fn weight_for(kind: Kind) -> u8
+    ensures value { λ r. ⌜ r ≡ weightOf kind ⌝ }
+    ensures small { λ r. ⌜ r ≤ 1 ⌝ }
+{
+    TABLE[kind as usize].weight
 }
 
 // Whether a name may stand there.
