@@ -54,6 +54,24 @@ apart-new : (r : Record) (rs : List Record) (i : ℕ) (new : Record) → isSome 
 apart-new r rs i new apart lt low ok e =
     ⊎-elim (λ same. apart-old r rs i apart lt low (e ∙ same)) (λ dead. dead-other r rs (new .address) (omega arith) dead (sym e)) ok
 
+-- a record in use is a cell
+pub record-cell : (rs : List Record) (i : ℕ) → sound rs ≡ true → i < length rs → 1 ≤ getD rs i unused .address → cells rs (getD rs i unused .address) ≡ Some (getD rs i unused .link)
+record-cell [] i fine lt low = absurd (omega arith)
+record-cell (r ∷ rs) zero fine lt low = grind (arith, tells)
+record-cell (r ∷ rs) (suc i) fine lt low =
+    let p = parts r rs fine in
+    let under : i < length rs = omega arith in
+    let before = record-cell rs i (p .sound) under low in
+    let ne : getD rs i unused .address ≡ r .address → ⊥ = λ e. apart-old r rs i (p .apart) under (omega arith) (sym e) in
+    grind (arith, tells)
+
+-- no two records in use have the same address
+pub records-apart : (rs : List Record) (i j : ℕ) → sound rs ≡ true → i < j → j < length rs → 1 ≤ getD rs i unused .address → getD rs i unused .address ≡ getD rs j unused .address → ⊥
+records-apart [] i j fine less lt low e = omega arith
+records-apart (r ∷ rs) i zero fine less lt low e = omega arith
+records-apart (r ∷ rs) zero (suc j) fine less lt low e = apart-old r rs j (parts r rs fine .apart) (omega arith) low e
+records-apart (r ∷ rs) (suc i) (suc j) fine less lt low e = records-apart rs i j (parts r rs fine .sound) (omega arith) (omega arith) low e
+
 none-from : (o : Option ℕ) → isSome o ≡ false → o ≡ None
 none-from (Some l) e = let z : _≡_ {A = ℕ} 0 1 = cc in absurd (omega arith)
 none-from None e = refl

@@ -8,14 +8,14 @@ use native.Mathlib.Omega.{arith}
 use lib.Dec.{eqb, leb}
 use lib.ListN.{length, getD, set, length-set, replicate, drop}
 use Rattle.heap.specs.Heaps.{put, without}
-use Rattle.ledger.proofs.Changes.{cells-put, cells-without, sound-put, sound-without, Vacant}
+use Rattle.ledger.proofs.Changes.{cells-put, cells-without, record-cell, records-apart, sound-put, sound-without, Vacant}
 use Rattle.ledger.proofs.Places.{no-place, place-address, place-here, place-link, place-most, place-past, used-full, used-room}
 use Rattle.ledger.specs.Bounds.{cell, length-usable}
 use Rattle.ledger.specs.Counts.{live-all, live-usable, live-used, nil-dead, used-most}
-use Rattle.ledger.specs.Records.{cells, fitting, Found, IsCell, IsUnused, meant, place, size, sound, topOf, unused, usable, used, vacant}
+use Rattle.ledger.specs.Records.{cells, cleared, fitting, Found, IsCell, IsUnused, meant, Mirrors, place, size, sound, topOf, unused, usable, used, vacant}
 use Rattle.ledger.specs.declared.records.Record.{Record}
 use Rattle.std.proofs.shelf.Lists.{at-drop-all, at-drop-more}
-use Rattle.std.proofs.shelf.Tests.{and-parts, leb-true}
+use Rattle.std.proofs.shelf.Tests.{and-parts, both-ways, cases-eq, cases-lt, leb-true}
 use Rattle.std.proofs.shelf.Ways.{tells}
 use Rattle.std.specs.Options.{isSome}
 use Rattle.std.specs.declared.option.Option.the-variants.{Some, None}
@@ -106,6 +106,25 @@ module _ (rs : List Record) (a i : ℕ) (fine : sound (usable rs) ≡ true) (e :
     full = found-full;
   }
 
+-- the cells are the records in use
+pub mirrors : (rs : List Record) → sound (usable rs) ≡ true → Mirrors rs
+mirrors rs fine = record { cell = cell-of; own = own-of; apart = apart-of }
+  where
+    all : (i : ℕ) → i < size (length rs) → sound rs ≡ true
+    all i lt = ap sound (sym (usable-is rs i lt)) ∙ fine
+
+    cell-of : (a : ℕ) → isSome (cells (usable rs) a) ≡ true → (i : ℕ) × IsCell rs a i
+    cell-of a live =
+        let i = place (usable rs) a in
+        let low : 1 ≤ a = ⊎-elim (λ (z : a ≡ 0). absurd (both-ways (isSome (cells (usable rs) a)) (found rs a i fine refl .nil z) live)) (λ (ne : a ≡ 0 → ⊥). omega arith) (cases-eq a 0) in
+        ⊎-elim (λ (lt : i < size (length rs)). (i, found rs a i fine refl .cell low lt)) (λ (ge : size (length rs) ≤ i). absurd (both-ways (isSome (cells (usable rs) a)) (found rs a i fine refl .dead ge) live)) (cases-lt i (size (length rs)))
+
+    own-of : (i : ℕ) → i < size (length rs) → 1 ≤ getD rs i unused .address → cells (usable rs) (getD rs i unused .address) ≡ Some (getD rs i unused .link)
+    own-of i lt low = ap (λ us. cells us (getD rs i unused .address)) (usable-is rs i lt) ∙ record-cell rs i (all i lt) (omega (arith, size-is (length rs) i lt)) low
+
+    apart-of : (i j : ℕ) → i < j → j < size (length rs) → 1 ≤ getD rs i unused .address → getD rs i unused .address ≡ getD rs j unused .address → ⊥
+    apart-of i j less lt = records-apart rs i j (all j lt) less (omega (arith, size-is (length rs) j lt))
+
 -- the meaning after a record was written
 module _ (rs : List Record) (i a : ℕ) (fine : sound (usable rs) ≡ true) (lt : i < size (length rs)) where
   all : usable rs ≡ rs
@@ -142,16 +161,16 @@ replicate-sound : (n : ℕ) → sound (replicate n unused) ≡ true
 replicate-sound zero = refl
 replicate-sound (suc n) = let before = replicate-sound n in let none = replicate-none n 0 in grind (arith, tells)
 
-pub wiped-sound : (rs : List Record) → sound (usable (replicate (length rs) unused)) ≡ true
-wiped-sound rs = by-test (fitting (length (replicate (length rs) unused)))
+pub cleared-sound : (rs : List Record) → sound (usable (cleared rs)) ≡ true
+cleared-sound rs = by-test (fitting (length rs)) refl
   where
-    by-test : (b : Bool) → sound (cond b (replicate (length rs) unused) []) ≡ true
-    by-test true = replicate-sound (length rs)
-    by-test false = refl
+    wiped : (b : Bool) → sound (cond b (replicate (length rs) unused) []) ≡ true
+    wiped true = replicate-sound (length rs)
+    wiped false = refl
 
--- a list of a wrong length has no usable record
-pub misfit-sound : (rs : List Record) → fitting (length rs) ≡ false → sound (usable rs) ≡ true
-misfit-sound rs e = ap (λ b. sound (cond b rs [])) e
+    by-test : (b : Bool) → fitting (length rs) ≡ b → sound (usable (cond b (replicate (length rs) unused) rs)) ≡ true
+    by-test true e = wiped (fitting (length (replicate (length rs) unused)))
+    by-test false e = ap (λ b. sound (cond b rs [])) e
 
 -- one record more is counted
 pub count-more : (rs : List Record) (i n : ℕ) → i < size (length rs) → n + used (drop i (usable rs)) ≡ used (usable rs) → cond (leb 1 (getD rs i unused .address)) (n + 1) n + used (drop (i + 1) (usable rs)) ≡ used (usable rs)

@@ -75,6 +75,12 @@ pub record IsCell (rs : List Record) (a i : ℕ) : Type 0 where
   pub address : getD rs i unused .address ≡ a
   pub link : cells (usable rs) a ≡ Some (getD rs i unused .link)
 
+-- the cells are the records in use, each with its address and link, and no two of them have the same address
+pub record Mirrors (rs : List Record) : Type 0 where
+  pub cell : (a : ℕ) → isSome (cells (usable rs) a) ≡ true → (i : ℕ) × IsCell rs a i
+  pub own : (i : ℕ) → i < size (length rs) → 1 ≤ getD rs i unused .address → cells (usable rs) (getD rs i unused .address) ≡ Some (getD rs i unused .link)
+  pub apart : (i j : ℕ) → i < j → j < size (length rs) → 1 ≤ getD rs i unused .address → getD rs i unused .address ≡ getD rs j unused .address → ⊥
+
 -- record i is the first unused one, so that fewer cells are live than there are records
 pub record IsUnused (rs : List Record) (i : ℕ) : Type 0 where
   pub within : i < size (length rs)

@@ -7,7 +7,7 @@ ghost use Prim.Native.Nat.{ℕ, _+_, _-_, _<_, _≤_};
 ghost use Rattle.heap.specs.Faults.{number, report};
 ghost use Rattle.heap.specs.Heaps.{put, without};
 ghost use Rattle.ledger.specs.Bounds.{bounded};
-ghost use Rattle.ledger.specs.Records.{cells, Found, IsCell, IsUnused, ledgerKinds, meant, NextDead, place, size, topOf, unused, usable, vacant};
+ghost use Rattle.ledger.specs.Records.{cells, Found, IsCell, IsUnused, ledgerKinds, meant, Mirrors, NextDead, place, size, topOf, unused, usable, used, vacant};
 ghost use Rattle.std.specs.Options.{Cases as BySome, isSome};
 ghost use Rattle.std.specs.Results.{Cases};
 ghost use Rattle.std.specs.Vec.{made};
@@ -38,7 +38,8 @@ fn refuse(problem: Problem, place: usize) -> Fault
 impl Ledger<'_> {
     // The place of the first record with an address, and the number of usable records if there is none.
     fn find(&self, address: u32) -> usize
-        ensures { λ r. ⌜ Found (now (now (self .entry) .records)) address r ⌝ }
+        ensures found { λ r. ⌜ Found (now (now (self .entry) .records)) address r ⌝ }
+        ensures mirrors { λ _. ⌜ Mirrors (now (now (self .entry) .records)) ⌝ }
     {
         let n = cells_in(self.records.len());
         for i in 0..n {
@@ -51,7 +52,8 @@ impl Ledger<'_> {
 
     // The place of a live cell's record.
     fn cell(&self, address: u32) -> Option<usize>
-        ensures { λ r. ⌜ BySome r (isSome (cells (usable (now (now (self .entry) .records))) address) ≡ false) (λ i. IsCell (now (now (self .entry) .records)) address i) ⌝ }
+        ensures mirrors { λ _. ⌜ Mirrors (now (now (self .entry) .records)) ⌝ }
+        ensures cell { λ r. ⌜ BySome r (isSome (cells (usable (now (now (self .entry) .records))) address) ≡ false) (λ i. IsCell (now (now (self .entry) .records)) address i) ⌝ }
     {
         let i = self.find(address);
         if address > 0 && i < cells_in(self.records.len()) {
@@ -85,6 +87,7 @@ impl Ledger<'_> {
 
     // How many records are in use.
     fn count(&self) -> usize
+        ensures used { λ r. ⌜ r ≡ used (usable (now (now (self .entry) .records))) ⌝ }
         ensures live { λ r. ⌜ r ≡ liveCells (meant (now (now (self .entry) .records))) ⌝ }
         ensures most { λ r. ⌜ r ≤ size (length (now (now (self .entry) .records))) ⌝ }
     {
@@ -169,6 +172,7 @@ pub impl<'a> Store for Ledger<'a> as LedgerStore {
         ensures home { λ _. ⌜ name (now (self .exit) .records) ≡ name (now (self .entry) .records) ⌝ }
         ensures records { λ _. ⌜ now (now (self .exit) .records) ≡ now (now (self .entry) .records) ⌝ }
         ensures last { λ _. ⌜ now (self .exit) .last ≡ now (self .entry) .last ⌝ }
+        ensures mirrors { λ _. ⌜ Mirrors (now (now (self .entry) .records)) ⌝ }
     {
         let Some(i) = self.cell(address) else {
             return Err(refuse(Problem::NotLive, address as usize));
@@ -237,6 +241,7 @@ pub impl<'a> Store for Ledger<'a> as LedgerStore {
 
     fn left(&mut self) -> u16
         ensures value { λ r. ⌜ r ≡ size (length (now (now (self .entry) .records))) - liveCells (meant (now (now (self .entry) .records))) ⌝ }
+        ensures unused { λ r. ⌜ r ≡ size (length (now (now (self .entry) .records))) - used (usable (now (now (self .entry) .records))) ⌝ }
         ensures same { λ _. ⌜ meant (now (now (self .exit) .records)) ≡ meant (now (now (self .entry) .records)) ⌝ }
         ensures kinds { λ _. ⌜ ledgerKinds ≡ ledgerKinds ⌝ }
         ensures home { λ _. ⌜ name (now (self .exit) .records) ≡ name (now (self .entry) .records) ⌝ }

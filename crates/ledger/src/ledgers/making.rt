@@ -1,10 +1,10 @@
 // Making a ledger, and the test before it.
 ghost use denote.Ref.{name};
-ghost use lib.ListN.{length, replicate};
+ghost use lib.ListN.{length};
 ghost use mathlib.Core.Bool.{true, false};
 ghost use mathlib.Core.Path.{_≡_};
 ghost use Rattle.heap.specs.Faults.{report};
-ghost use Rattle.ledger.specs.Records.{cleared, fitting, size, unused};
+ghost use Rattle.ledger.specs.Records.{cleared, fitting, size};
 ghost use Rattle.std.specs.Results.{Cases};
 ghost use Rattle.store.specs.Meanings.{refusal};
 use super::Ledger;
@@ -47,11 +47,13 @@ pub fn check(records: &[Record]) -> Result<(), Fault>
     Ok(())
 }
 
-// Writes 0 and 0 into every record.
-fn wipe(records: &mut [Record])
-    ensures { λ _. ⌜ now (records .exit) ≡ replicate (length (now (records .entry))) unused ⌝ }
+// Writes 0 and 0 into every record, if there is a right number of them.
+fn prepare(records: &mut [Record])
+    ensures { λ _. ⌜ now (records .exit) ≡ cleared (now (records .entry)) ⌝ }
 {
-    records.fill(UNUSED);
+    if fits(records.len()) {
+        records.fill(UNUSED);
+    }
 }
 
 impl<'a> Ledger<'a> {
@@ -61,9 +63,7 @@ impl<'a> Ledger<'a> {
         ensures last { λ r. ⌜ r .last ≡ 4095 ⌝ }
         ensures home { λ r. ⌜ name (r .records) ≡ name (records .entry) ⌝ }
     {
-        if fits(records.len()) {
-            wipe(records);
-        }
+        prepare(records);
         Ledger { records, last: TOP }
     }
 }

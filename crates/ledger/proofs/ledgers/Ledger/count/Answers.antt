@@ -17,4 +17,4 @@ returns c =
     let rs = c .args .self .now .records .now in
     let all = count-all rs (c .loop-i .i) (c .loop-i .n) (omega arith) (c .loop-i .inv .1) in
     let live = live-usable rs (c .args .self .now .kept) in
-    record { live = omega arith; most = omega (arith, used-most (usable rs), length-usable rs) }
+    record { used = all; live = omega arith; most = omega (arith, used-most (usable rs), length-usable rs) }
