@@ -2,6 +2,9 @@
 use bench::Bench;
 use bench::BenchStore;
 use heap::Fault;
+use ledger::Ledger;
+use ledger::LedgerStore;
+use ledger::Record;
 use std::error::AnyError;
 use store::Store;
 use walk::follow;
@@ -66,7 +69,9 @@ fn run(rt: &LibcRuntime) -> Result<(), AnyError> {
     let mut words = [0u16; 4];
     println!(rt, "bench of 4 words")?;
     task(rt, &mut Bench::over(&mut words))?;
-    Ok(())
+    let mut records = [Record { address: 0, link: 0 }; 4];
+    println!(rt, "ledger of 4 records")?;
+    task(rt, &mut Ledger::over(&mut records))
 }
 
 fn main(rt: LibcRuntime) -> Result<(), AnyError> {

@@ -1,0 +1,4 @@
+-- What the contracts cite.
+pub mod Bounds
+pub mod Counts
+pub mod Records
