@@ -8,7 +8,7 @@ ghost use Rattle.bench.specs.Bounds.{bounded};
 ghost use Rattle.bench.specs.Words.{benchKinds, cells, held, HighestDead, LiveAbove, meant, size};
 ghost use Rattle.heap.specs.Faults.{number, report};
 ghost use Rattle.std.specs.Results.{Cases};
-ghost use Rattle.store.specs.Meanings.{Frees, isLive, liveBelow, liveCells, Reads, refusal, Takes, Writes};
+ghost use Rattle.store.specs.Meanings.{Frees, isLive, liveBelow, liveCells, Reads, refusal, Takes, Unwritten, writable, Writes};
 use super::Bench;
 use super::DEAD;
 use super::making::cells as cells_of;
@@ -46,6 +46,19 @@ impl Bench<'_> {
     {
         let a = address as usize;
         a >= 1 && a <= cells_of(self.words.len()) && self.words[a - 1] != DEAD
+    }
+
+    // Whether a cell may get this link.
+    fn may_write(&self, address: u32, link: u32) -> Result<(), Fault>
+        ensures { λ r. ⌜ Cases r (λ _. writable (meant (now (now (self .entry) .words))) address link ≡ true) (λ f. Unwritten (meant (now (now (self .entry) .words))) benchKinds address link f (meant (now (now (self .entry) .words)))) ⌝ }
+    {
+        if !self.holds(address) {
+            return Err(refuse(Problem::NotLive, address as usize));
+        }
+        if link >= DEAD as u32 {
+            return Err(refuse(Problem::LinkRange, link as usize));
+        }
+        Ok(())
     }
 
     // The highest dead cell, or 0 if all are live.
@@ -106,12 +119,7 @@ pub impl<'a> Store for Bench<'a> as BenchStore {
         ensures home { λ _. ⌜ name (now (self .exit) .words) ≡ name (now (self .entry) .words) ⌝ }
         ensures words { λ r. ⌜ Cases r (λ _. now (now (self .exit) .words) ≡ set (now (now (self .entry) .words)) (address - 1) link) (λ _. now (now (self .exit) .words) ≡ now (now (self .entry) .words)) ⌝ }
     {
-        if !self.holds(address) {
-            return Err(refuse(Problem::NotLive, address as usize));
-        }
-        if link >= DEAD as u32 {
-            return Err(refuse(Problem::LinkRange, link as usize));
-        }
+        self.may_write(address, link)?;
         self.put(address as usize, link as u16);
         Ok(())
     }

@@ -1,10 +1,11 @@
 // Making a bench, and the test before it.
 ghost use denote.Ref.{name};
-ghost use lib.ListN.{length, replicate};
+ghost use lib.ListN.{length};
 ghost use mathlib.Core.Bool.{true, false};
 ghost use mathlib.Core.Path.{_≡_};
-ghost use Rattle.bench.specs.Words.{cleared, fitting, size};
+ghost use Rattle.bench.specs.Words.{cleared, fitting, meant, size};
 ghost use Rattle.heap.specs.Faults.{report};
+ghost use Rattle.heap.specs.Heaps.{Empty};
 ghost use Rattle.std.specs.Results.{Cases};
 ghost use Rattle.store.specs.Meanings.{refusal};
 use super::Bench;
@@ -45,22 +46,23 @@ pub fn check(words: &[u16]) -> Result<(), Fault>
     Ok(())
 }
 
-// Writes 65,535 into every word.
-fn wipe(words: &mut [u16])
-    ensures { λ _. ⌜ now (words .exit) ≡ replicate (length (now (words .entry))) 65535 ⌝ }
+// Makes all cells dead, if the words can be a bench.
+fn clear(words: &mut [u16])
+    ensures { λ _. ⌜ now (words .exit) ≡ cleared (now (words .entry)) ⌝ }
 {
-    words.fill(DEAD);
+    if fits(words.len()) {
+        words.fill(DEAD);
+    }
 }
 
 impl<'a> Bench<'a> {
     // The bench in these words, without a live cell; a list of a wrong length is left as it is, now and by every call.
     pub fn over(words: &'a mut [u16]) -> Bench<'a>
         ensures words { λ r. ⌜ now (r .words) ≡ cleared (now (words .entry)) ⌝ }
+        ensures empty { λ r. ⌜ Empty (meant (now (r .words)) .heap) ⌝ }
         ensures lent { λ r. ⌜ name (r .words) ≡ name (words .entry) ⌝ }
     {
-        if fits(words.len()) {
-            wipe(words);
-        }
+        clear(words);
         let hint = cells(words.len());
         Bench { words, hint }
     }
