@@ -1,0 +1,3 @@
+// Examples: sequences of calls on each make of store, with the answer of every call.
+#[cfg(test)]
+mod tests;
