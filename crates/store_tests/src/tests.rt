@@ -23,19 +23,12 @@ enum Answer {
     Done,
     Number(u16),
     Flag(bool),
-    Refused {
-        number: u16,
-        place: usize,
-        kind: u16,
-    },
+    // number, place and kind of the fault
+    Refused(u16, usize, u16),
 }
 
 fn refused(fault: Fault) -> Answer {
-    Answer::Refused {
-        number: fault.number(),
-        place: fault.place,
-        kind: fault.kind,
-    }
+    Answer::Refused(fault.number(), fault.place, fault.kind)
 }
 
 fn done(r: Result<(), Fault>) -> Answer {
@@ -64,8 +57,11 @@ fn ask<S: Store>(store: &mut S, call: Call) -> Answer {
     }
 }
 
+// A call and the answer that it must meet.
+type Step = (Call, Answer);
+
 // Makes the calls one after another, and compares each answer.
-fn run<S: Store>(store: &mut S, script: &[(Call, Answer)]) -> Result<(), Fail> {
+fn run<S: Store>(store: &mut S, script: &[Step]) -> Result<(), Fail> {
     for (call, answer) in script {
         check_eq(ask(store, *call), *answer)?;
     }
