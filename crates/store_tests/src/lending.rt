@@ -1,10 +1,10 @@
 // What a lender's list holds once the store over it is let go.
-ghost use lib.ListN.{length, set};
+ghost use lib.ListN.{set};
 ghost use mathlib.Core.Path.{_≡_};
 ghost use Prim.Native.Nat.{_-_};
-ghost use Rattle.bench.specs.Words.{benchKinds, cleared, meant};
+ghost use Rattle.bench.specs.Words.{cells, cleared};
 ghost use Rattle.std.specs.Results.{Cases};
-ghost use Rattle.walk.specs.Ways.{Swaps};
+ghost use Rattle.std.specs.declared.option.Option.the-variants.{Some};
 use bench::Bench;
 use bench::BenchStore;
 use heap::Fault;
@@ -18,10 +18,14 @@ pub fn after_take(words: &mut [u16]) -> Result<u16, Fault>
     bench.take()
 }
 
-// After code over any store: what it promises of the store's meaning holds of the words.
-pub fn after_swap(words: &mut [u16], first: u32, second: u32) -> Result<(), Fault>
-    ensures { λ r. ⌜ Swaps (meant (cleared (now (words .entry)))) benchKinds first second r (meant (now (words .exit))) ⌝ }
+// After code over any store: the first cell, linked to the second, and the second have changed links.
+pub fn after_swap(words: &mut [u16]) -> Result<(u32, u32), Fault>
+    ensures { λ r. ⌜ Cases r (λ p. (cells (now (words .exit)) (p .0) ≡ Some 0) × (cells (now (words .exit)) (p .1) ≡ Some (p .1))) (λ _. Unit {0}) ⌝ }
 {
     let mut bench = Bench::over(words);
-    walk::swap_links(&mut bench, first, second)
+    let first = u32::from(bench.take()?);
+    let second = u32::from(bench.take()?);
+    bench.write(first, second)?;
+    walk::swap_links(&mut bench, first, second)?;
+    Ok((first, second))
 }
