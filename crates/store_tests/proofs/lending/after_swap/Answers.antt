@@ -7,7 +7,7 @@ use Rattle.store_tests.proofs.lending.after_swap.Needs as need
 pub returns : need.returns
 returns c =
     let links =
-          after-swap (sym (c .from-first .ensures)) (sym (c .from-second .ensures))
-            (c .in-Continue-take .ensures tt .answer) (c .in-Continue-take-2 .ensures tt .answer)
-            (c .in-Continue-write .ensures tt .answer) (c .in-Continue-swap-links .ensures tt .answer) in
+    after-swap (sym (c .from-first .ensures)) (sym (c .from-second .ensures))
+    (c .in-Continue-take .ensures tt .answer) (c .in-Continue-take-2 .ensures tt .answer)
+    (c .in-Continue-write .ensures tt .answer) (c .in-Continue-swap-links .ensures tt .answer) in
     (search needs, search needs)
