@@ -157,7 +157,7 @@ pub impl<'a> Store for Bench<'a> as BenchStore {
     }
 
     fn left(&mut self) -> u16
-        ensures value { λ r. ⌜ r ≡ storeOf (now (self .entry)) .top - liveCells (storeOf (now (self .entry))) ⌝ }
+        ensures value { λ r. ⌜ r ≡ storeOf (now (self .entry)) .capacity - liveCells (storeOf (now (self .entry))) ⌝ }
         ensures same { λ _. ⌜ storeOf (now (self .exit)) ≡ storeOf (now (self .entry)) ⌝ }
         ensures kinds { λ _. ⌜ benchKinds ≡ benchKinds ⌝ }
         ensures home { λ _. ⌜ lenderOf (now (self .exit)) ≡ lenderOf (now (self .entry)) ⌝ }
