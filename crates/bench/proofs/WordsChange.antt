@@ -1,20 +1,20 @@
 -- Proofs: how the meaning of the words changes with a word, and how the live ones are counted.
-use mathlib.Core.Path.{_≡_, fun-ext}
+use mathlib.Core.Path.{_≡_, refl, fun-ext}
 use mathlib.Core.Bool.{Bool, true, false, cond}
 use mathlib.Core.List.{List}
 use Prim.Native.Nat.{ℕ, suc, _+_, _-_, _<_, _≤_}
 use native.Mathlib.Numerals.{add-one}
 use native.Mathlib.Omega.{arith}
 use lib.Dec.{eqb}
-use lib.ListN.{length, getD, set, length-set}
-use Rattle.heap.specs.Heaps.{put}
-use Rattle.std.proofs.shelf.Lists.{getD-set-same, getD-set-other}
+use lib.ListN.{length, getD, replicate, set, length-replicate, length-set}
+use Rattle.heap.specs.Heaps.{Empty, put}
+use Rattle.std.proofs.shelf.Lists.{getD-replicate, getD-set-same, getD-set-other}
 use Rattle.std.proofs.shelf.Ways.{tells}
 use Rattle.std.specs.Options.{isSome}
 use Rattle.std.specs.declared.option.Option.the-variants.{Some, None}
 use Rattle.store.proofs.Counting.{all-live}
 use Rattle.store.specs.Meanings.{liveBelow, liveCells, withHeap}
-use Rattle.bench.specs.Words.{cells, held, LiveAbove, meant, size}
+use Rattle.bench.specs.Words.{cells, cleared, fitting, held, LiveAbove, meant, size}
 
 cells-put : (ws : List ℕ) (a l : ℕ) → 1 ≤ a → a ≤ size (length ws) → l < 65535 → (k : ℕ) → cells (set ws (a - 1) l) k ≡ put (cells ws) a l k
 cells-put ws a l lo hi lt k = grind (arith, tells, length-set, getD-set-same, getD-set-other)
@@ -33,6 +33,14 @@ dead-cell ws a e = grind (arith, tells)
 -- all cells are live, so they are as many as the words
 pub all-held : (ws : List ℕ) → LiveAbove ws 0 → liveCells (meant ws) ≡ size (length ws)
 all-held ws live = all-live (cells ws) (size (length ws)) (λ k lo hi. held-live ws k (live k (omega arith) hi))
+
+-- no cell of a bench is live when it is made
+pub cleared-empty : (ws : List ℕ) → Empty (cells (cleared ws))
+cleared-empty ws a = by-length (fitting (length ws)) refl
+  where
+    by-length : (b : Bool) → fitting (length ws) ≡ b → cells (cond b (replicate (length ws) 65535) ws) a ≡ None
+    by-length true e = grind (arith, tells, length-replicate, getD-replicate)
+    by-length false e = grind (arith, tells)
 
 -- one word more to count
 pub count-more : (ws : List ℕ) (i n : ℕ) → i < size (length ws) → getD ws i 0 ≤ 65535 → n ≡ liveBelow (cells ws) i → cond (eqb (getD ws i 0) 65535) n (n + 1) ≡ liveBelow (cells ws) (i + 1)

@@ -1,16 +1,15 @@
 -- Proof: every list of words keeps the bounds of a store.
-use mathlib.Core.Path.{_≡_, refl, sym, _∙_, ap}
+use mathlib.Core.Path.{_≡_, refl}
 use mathlib.Core.Bool.{Bool, true, false, cond, _&&_}
 use mathlib.Core.List.{List}
-use Prim.Native.Nat.{ℕ, zero, suc, _+_, _-_, _<_, _≤_}
+use Prim.Native.Nat.{ℕ, _-_, _≤_}
 use native.Mathlib.Omega.{arith}
 use lib.Dec.{leb, ltb}
 use lib.ListN.{length, getD}
-use Rattle.heap.specs.Heaps.{Heap}
 use Rattle.std.proofs.shelf.Tests.{and-parts, leb-true, ltb-true}
-use Rattle.std.specs.Options.{isSome}
 use Rattle.std.specs.declared.option.Option.the-variants.{Some, None}
-use Rattle.store.specs.Meanings.{Bounded, liveBelow}
+use Rattle.store.proofs.Counting.{live-most}
+use Rattle.store.specs.Meanings.{Bounded}
 use Rattle.bench.specs.Words.{cells, held, meant, size}
 
 some-held : (b : Bool) (w l : ℕ) → cond b (Some w) None ≡ Some l → b ≡ true
@@ -20,15 +19,6 @@ some-held false w l h = let z : _≡_ {A = ℕ} 0 1 = cc in absurd (omega arith)
 some-link : (b : Bool) (w l : ℕ) → cond b (Some w) None ≡ Some l → w ≡ l
 some-link true w l h = cc
 some-link false w l h = let z : _≡_ {A = ℕ} 0 1 = cc in absurd (omega arith)
-
-one-most : (b : Bool) → cond b 1 0 ≤ 1
-one-most true = omega arith
-one-most false = omega arith
-
--- no more than n of the addresses from 1 to n are live
-live-most : (h : Heap) (n : ℕ) → liveBelow h n ≤ n
-live-most h zero = omega arith
-live-most h (suc n) = omega (arith, one-most (isSome (h (suc n))), live-most h n)
 
 size-most : (n : ℕ) → size n ≤ 4095
 size-most n = by-test (leb n 4095) refl

@@ -1,3 +1,4 @@
 -- What the contracts cite.
+pub mod Benches
 pub mod Bounds
 pub mod Words

@@ -5,9 +5,13 @@ use mathlib.Core.List.{List}
 use Prim.Native.Nat.{ℕ, _-_, _<_, _≤_}
 use lib.Dec.{leb, ltb}
 use lib.ListN.{length, getD, replicate}
+use Rattle.heap.specs.Faults.{report}
 use Rattle.heap.specs.Heaps.{Heap}
+use Rattle.heap.specs.declared.faults.Fault.{Fault}
+use Rattle.std.specs.Results.{Cases}
 use Rattle.std.specs.declared.option.Option.the-variants.{Some, None}
-use Rattle.store.specs.Meanings.{Kinds, Meaning}
+use Rattle.std.specs.declared.result.Result.{Result}
+use Rattle.store.specs.Meanings.{Kinds, Meaning, refusal}
 
 -- the lengths that a bench's list of words can have
 abbrev pub fitting : ℕ → Bool
@@ -47,3 +51,7 @@ pub record HighestDead (ws : List ℕ) (a : ℕ) : Type 0 where
   pub high : a ≤ size (length ws)
   pub dead : getD ws (a - 1) 0 ≡ 65535
   pub above : LiveAbove ws a
+
+-- the test before making: nothing, or 144 at a wrong length
+abbrev pub Tests : {U : Type 0} → ℕ → Result U Fault → Type 0
+Tests n r = Cases r (λ _. fitting n ≡ true) (λ f. (fitting n ≡ false) × (report f ≡ refusal 144 n 1))

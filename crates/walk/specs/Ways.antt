@@ -1,11 +1,12 @@
 -- Meaning: following links through a heap, and two cells that change links. Assumes nothing.
 use mathlib.Core.Path.{_≡_}
-use mathlib.Core.Bool.{false, cond, _&&_}
+use mathlib.Core.Bool.{true, false, cond, _&&_}
 use mathlib.Core.List.{[], _∷_}
 use Prim.Native.Nat.{ℕ, zero, suc}
 use Rattle.heap.specs.Faults.{report}
 use Rattle.heap.specs.Heaps.{Heap, put}
 use Rattle.heap.specs.declared.faults.Fault.{Fault}
+use Rattle.std.specs.Options.{valueOr}
 use Rattle.std.specs.Results.{Cases}
 use Rattle.std.specs.declared.option.Option.the-variants.{Some, None}
 use Rattle.std.specs.declared.result.Result.{Result}
@@ -16,13 +17,20 @@ abbrev pub steps : Heap → ℕ → ℕ → ℕ
 steps h zero a = 0
 steps h (suc n) a = elim (h a) [ None ↦ 0 | Some l ↦ suc (steps h n l) ]
 
--- a had the link x and b the link y, and now a has y and b has x
-pub record Swapped (m : Meaning) (a b : ℕ) (n : Meaning) : Type 0 where
-  pub x : ℕ
-  pub y : ℕ
+-- the link of a live cell
+abbrev pub linkOf : Meaning → ℕ → ℕ
+linkOf m a = valueOr (m .heap a) 0
+
+-- both cells were live, x and y are their links, and nothing changed
+pub record Linked (m : Meaning) (a b x y : ℕ) (n : Meaning) : Type 0 where
   pub first : m .heap a ≡ Some x
   pub second : m .heap b ≡ Some y
-  pub after : n ≡ withHeap m (put (put (m .heap) a y) b x)
+  pub same : n ≡ m
+
+-- both cells were live, and each has the other's link now
+pub record Swapped (m : Meaning) (a b : ℕ) (n : Meaning) : Type 0 where
+  pub live : (isLive m a && isLive m b) ≡ true
+  pub after : n ≡ withHeap m (put (put (m .heap) a (linkOf m b)) b (linkOf m a))
 
 -- a was not live: 141 at a; else b was not: 141 at b
 pub record Unswapped (m : Meaning) (kinds : Kinds) (a b : ℕ) (f : Fault) (n : Meaning) : Type 0 where

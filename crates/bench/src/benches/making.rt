@@ -1,11 +1,11 @@
 // Making a bench, and the test before it.
 ghost use denote.Ref.{name};
-ghost use lib.ListN.{length, replicate};
-ghost use mathlib.Core.Bool.{true, false};
+ghost use lib.ListN.{length};
 ghost use mathlib.Core.Path.{_≡_};
-ghost use Rattle.bench.specs.Words.{cleared, fitting, size};
-ghost use Rattle.heap.specs.Faults.{report};
-ghost use Rattle.std.specs.Results.{Cases};
+ghost use Rattle.bench.specs.Benches.{lenderOf, storeOf, wordsOf};
+ghost use Rattle.bench.specs.Words.{cleared, fitting, size, Tests};
+ghost use Rattle.heap.specs.Faults.{number, report};
+ghost use Rattle.heap.specs.Heaps.{Empty};
 ghost use Rattle.store.specs.Meanings.{refusal};
 use super::Bench;
 use super::DEAD;
@@ -29,38 +29,46 @@ pub fn cells(len: usize) -> usize
     if len <= MOST { len } else { 0 }
 }
 
+// A fault of a bench.
+pub fn refuse(problem: Problem, place: usize) -> Fault
+    ensures { λ r. ⌜ report r ≡ refusal (number problem) place 1 ⌝ }
+{
+    Fault {
+        problem,
+        place,
+        kind: BenchStore::KIND,
+        routine: 0,
+        row: 0,
+    }
+}
+
 // The test before making: whether the list has a length that a bench can have.
 pub fn check(words: &[u16]) -> Result<(), Fault>
-    ensures { λ r. ⌜ Cases r (λ _. fitting (length (now (words .entry))) ≡ true) (λ f. (fitting (length (now (words .entry))) ≡ false) × (report f ≡ refusal 144 (length (now (words .entry))) 1)) ⌝ }
+    ensures { λ r. ⌜ Tests (length (now (words .entry))) r ⌝ }
 {
     if !fits(words.len()) {
-        return Err(Fault {
-            problem: Problem::ListLength,
-            place: words.len(),
-            kind: BenchStore::KIND,
-            routine: 0,
-            row: 0,
-        });
+        return Err(refuse(Problem::ListLength, words.len()));
     }
     Ok(())
 }
 
-// Writes 65,535 into every word.
-fn wipe(words: &mut [u16])
-    ensures { λ _. ⌜ now (words .exit) ≡ replicate (length (now (words .entry))) 65535 ⌝ }
+// Makes all cells dead, if the words can be a bench.
+fn clear(words: &mut [u16])
+    ensures { λ _. ⌜ now (words .exit) ≡ cleared (now (words .entry)) ⌝ }
 {
-    words.fill(DEAD);
+    if fits(words.len()) {
+        words.fill(DEAD);
+    }
 }
 
 impl<'a> Bench<'a> {
     // The bench in these words, without a live cell; a list of a wrong length is left as it is, now and by every call.
     pub fn over(words: &'a mut [u16]) -> Bench<'a>
-        ensures words { λ r. ⌜ now (r .words) ≡ cleared (now (words .entry)) ⌝ }
-        ensures lent { λ r. ⌜ name (r .words) ≡ name (words .entry) ⌝ }
+        ensures words { λ r. ⌜ wordsOf r ≡ cleared (now (words .entry)) ⌝ }
+        ensures empty { λ r. ⌜ Empty (storeOf r .heap) ⌝ }
+        ensures lent { λ r. ⌜ lenderOf r ≡ name (words .entry) ⌝ }
     {
-        if fits(words.len()) {
-            wipe(words);
-        }
+        clear(words);
         let hint = cells(words.len());
         Bench { words, hint }
     }

@@ -8,9 +8,10 @@ use Rattle.bench.proofs.benches.calls.BenchStore.write.Needs as need
 
 pub returns : need.returns
 returns c =
-    let whole = meant-put (c .args .self .now .words .now) (c .args .address) (c .args .link) (grind (arith, tells)) (grind (arith, tells)) (omega arith) in
+    let fits = c .in-Continue-may-write .ensures tt in
+    let whole = meant-put (c .args .self .now .words .now) (c .args .address) (c .args .link) (grind (arith, tells)) (grind (arith, tells)) (grind (arith, tells)) in
     record {
-      answer = record { live = search needs; fits = search needs; after = search (needs, whole) };
+      answer = record { live = grind (arith, tells); fits = grind (arith, tells); after = search (needs, whole) };
       kinds = refl;
       home = search needs;
       words = search needs;

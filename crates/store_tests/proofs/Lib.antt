@@ -1,0 +1,2 @@
+-- The lemmas of the crate, by what they show.
+pub mod TwoCells
