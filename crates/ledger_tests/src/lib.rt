@@ -1,4 +1,22 @@
-// Examples: what a ledger answers, at every edge of its addresses, links and lengths.
+// Examples: what a ledger answers, at every edge of its addresses, links and lengths, and what its lender knows.
+ghost use lib.ListN.{set};
+ghost use mathlib.Core.Path.{_≡_};
+ghost use Rattle.ledger.specs.Records.{cleared, place};
+ghost use Rattle.std.specs.Results.{Cases};
+use heap::Fault;
+use ledger::Ledger;
+use ledger::LedgerStore;
+use ledger::Record;
+use store::Store;
+
+// Takes one cell: the lender knows its records when the store is let go.
+pub fn one_taken(records: &mut [Record]) -> Result<u16, Fault>
+    ensures { λ r. ⌜ Cases r (λ a. now (records .exit) ≡ set (cleared (now (records .entry))) (place (cleared (now (records .entry))) 0) (record { address = a; link = 0 })) (λ _. now (records .exit) ≡ cleared (now (records .entry))) ⌝ }
+{
+    let mut s = Ledger::over(records);
+    s.take()
+}
+
 #[cfg(test)]
 mod tests {
     use heap::Fault;
