@@ -61,7 +61,10 @@ fn task<S: Store>(rt: &LibcRuntime, store: &mut S) -> Result<(), AnyError> {
     linked(rt, store, other, third)?;
     let cells = follow(store, first, 100);
     let left = store.left();
-    println!(rt, "  a list of {cells} cells from {first}; {left} cells left")?;
+    println!(
+        rt,
+        "  a list of {cells} cells from {first}; {left} cells left"
+    )?;
     Ok(())
 }
 
@@ -69,7 +72,10 @@ fn run(rt: &LibcRuntime) -> Result<(), AnyError> {
     let mut words = [0u16; 4];
     println!(rt, "bench of 4 words")?;
     task(rt, &mut Bench::over(&mut words))?;
-    let mut records = [Record { address: 0, link: 0 }; 4];
+    let mut records = [Record {
+        address: 0,
+        link: 0,
+    }; 4];
     println!(rt, "ledger of 4 records")?;
     task(rt, &mut Ledger::over(&mut records))
 }

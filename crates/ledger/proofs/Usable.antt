@@ -99,6 +99,7 @@ module _ (rs : List Record) (a i : ℕ) (fine : sound (usable rs) ≡ true) (e :
 
   pub found : Found rs a i
   found = record {
+    most = omega (arith, place-most (usable rs) a, length-usable rs);
     cell = found-cell;
     dead = λ most. no-place (usable rs) a (omega (arith, length-usable rs));
     nil = λ z. ap (λ b. isSome (cells (usable rs) b)) z ∙ ap isSome (nil-dead (usable rs));

@@ -90,6 +90,7 @@ pub record IsUnused (rs : List Record) (i : ℕ) : Type 0 where
 
 -- what the place i of the address a tells
 pub record Found (rs : List Record) (a i : ℕ) : Type 0 where
+  pub most : i ≤ size (length rs)
   pub cell : 1 ≤ a → i < size (length rs) → IsCell rs a i
   pub dead : size (length rs) ≤ i → isSome (cells (usable rs) a) ≡ false
   pub nil : a ≡ 0 → isSome (cells (usable rs) a) ≡ false

@@ -19,7 +19,7 @@ pub fn after_take(words: &mut [u16]) -> Result<u16, Fault>
 }
 
 // After code over any store: the first cell, linked to the second, and the second have changed links.
-pub fn after_swap(words: &mut [u16]) -> Result<(u32, u32), Fault>
+fn after_swap(words: &mut [u16]) -> Result<(u32, u32), Fault>
     ensures { λ r. ⌜ Cases r (λ p. (cells (now (words .exit)) (p .0) ≡ Some 0) × (cells (now (words .exit)) (p .1) ≡ Some (p .1))) (λ _. Unit {0}) ⌝ }
 {
     let mut bench = Bench::over(words);

@@ -3,5 +3,4 @@ mod lending;
 #[cfg(test)]
 mod tests;
 
-pub use lending::after_swap;
 pub use lending::after_take;
