@@ -1,4 +1,6 @@
 // The lines that programs print: an answer in two columns, and what a sheet holds.
+#![tactic(auto)]
+
 mod lines;
 mod shown;
 mod summaries;

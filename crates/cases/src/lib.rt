@@ -1,4 +1,6 @@
 // Symbolic cases: one case of a piece in memory, the cases behind it, and the test of its closing list.
+#![tactic(auto)]
+
 mod cases;
 mod covering;
 mod expanding;

@@ -1,4 +1,6 @@
 // One task over each make of store: three cells linked into a list, the middle one let go, another taken in its place.
+#![tactic(auto)]
+
 use bench::Bench;
 use heap::Fault;
 use ledger::{Ledger, Record};

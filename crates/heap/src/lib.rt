@@ -1,4 +1,6 @@
 // What the other parts speak of: atoms over heaps, faults, and a pile over lent memory.
+#![tactic(auto)]
+
 mod atoms;
 mod faults;
 mod piles;

@@ -1,4 +1,6 @@
 // Examples: what a pile, a fault and a walk's test answer.
+#![tactic(auto)]
+
 #[cfg(test)]
 mod tests {
     use heap::{Fault, Pile, Problem};

@@ -1,4 +1,6 @@
 // The layout of a sheet's text: numbers in columns of four bytes, seven columns and byte 10 a line.
+#![tactic(auto)]
+
 mod columns;
 mod lines;
 mod scanned;

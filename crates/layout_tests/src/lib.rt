@@ -1,4 +1,6 @@
 // The layout's calls on examples, and a line that is done with before its text is overwritten.
+#![tactic(auto)]
+
 ghost use Rattle.std.specs.Prelude.{◌≡◌, length, if◌then◌else◌, Some, None, nat_le, slice_index, slice_set};
 
 use layout::line;

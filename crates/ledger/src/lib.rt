@@ -1,4 +1,6 @@
 // The ledger: a store whose cells are the records of a list that the caller lends.
+#![tactic(auto)]
+
 mod ledgers;
 mod records;
 

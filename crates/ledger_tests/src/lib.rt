@@ -1,4 +1,6 @@
 // Examples: what a ledger answers, at every edge of its addresses, links and lengths, and what its lender knows.
+#![tactic(auto)]
+
 ghost use Rattle.std.specs.Prelude.{◌≡◌, set, MatchResult};
 ghost use Rattle.ledger.specs.Records.{cleared, place};
 

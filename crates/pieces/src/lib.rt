@@ -1,4 +1,6 @@
 // The pieces of a routine: what they mean, and the mathematics by which they are decided.
+#![tactic(auto)]
+
 mod shapes;
 mod verdicts;
 

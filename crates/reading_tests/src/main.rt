@@ -1,4 +1,6 @@
 // Reads every sheet that data/cases.txt names, and prints for each its name and the answer in two columns: 0 and 0, or the number and place of what is wrong.
+#![tactic(auto)]
+
 use answers::{Shown, answer, refusal, summary};
 use sheet::Sheet;
 use std::fs;

@@ -1,4 +1,6 @@
 // The decision: whether every piece of a sheet is right, by a search over symbolic cases.
+#![tactic(auto)]
+
 mod assertions;
 mod contracts;
 mod deciding;

@@ -1,4 +1,6 @@
 // The sheet as a value, the table of line kinds, and the reader.
+#![tactic(auto)]
+
 mod building;
 mod drafting;
 mod drafts;

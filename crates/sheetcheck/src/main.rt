@@ -1,4 +1,6 @@
 // Reads one sheet from standard input and prints one line: what was read, or the number and place of what is wrong.
+#![tactic(auto)]
+
 use answers::line_for;
 use std::io::{Read, Write};
 

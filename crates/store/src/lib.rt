@@ -1,4 +1,6 @@
 // A store of cells: what every make of cell memory promises to the code above it.
+#![tactic(auto)]
+
 ghost use Rattle.std.specs.Prelude.{◌≡◌, ℕ, ◌-◌};
 ghost use Rattle.store.specs.Meanings.{Bounded, Frees, is_live, Kinds, live_cells, Meaning, Reads, Takes, Writes};
 

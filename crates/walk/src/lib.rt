@@ -1,4 +1,6 @@
 // Code over any store: walks along links, and changes of them.
+#![tactic(auto)]
+
 ghost use Rattle.std.specs.Prelude.{◌≡◌, true, MatchResult};
 ghost use Rattle.heap.specs.Heaps.{put};
 ghost use Rattle.store.specs.Meanings.{with_heap, writable};

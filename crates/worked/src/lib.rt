@@ -1,4 +1,6 @@
 // Thirteen worked sheets: specs/Worked has the text of each, the routine that it reads as, and the verdict on it.
+#![tactic(auto)]
+
 ghost use Rattle.std.specs.Prelude.{◌≡◌, length};
 ghost use Rattle.worked.specs.Worked.{sheets, WorkedSheets};
 
