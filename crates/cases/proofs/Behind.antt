@@ -9,8 +9,8 @@ use Rattle.sheet.specs.Flow.{row_at}
 use Rattle.pieces.specs.declared.shapes.Edge.TheVariants.{Dead, Cell, Segment}
 use Rattle.pieces.specs.Pieces.{touched}
 use Rattle.pieces.specs.ModelChoices.{flat, gather}
-use Rattle.pieces.specs.ModelCover.{is_dead_lem}
-use Rattle.pieces.specs.ModelShapes.{Shape, set_name, add_node_lem, new_at_lem, new_apart, set_edge_lem}
+use Rattle.pieces.specs.ModelCover.{is_dead}
+use Rattle.pieces.specs.ModelShapes.{Shape, set_name, add_node, new_at_lem, new_apart, set_edge}
 use Rattle.pieces.specs.ModelCases.{Case, at, nexts, cells, aim, misses}
 use Rattle.pieces.specs.ModelStages.{Stage, placing, adding, linking, running, Item, item, placed, laid, afters}
 use Rattle.cases.specs.declared.cases.Case as code
@@ -27,7 +27,7 @@ flat-each f g (suc m) = ap (λ l. f (g m) ++ l) (flat-each f g m)
 pub behind_placing : (names : List ℕ) (l : List Atom) (k r : ℕ) (s : Shape) → k < length names → afters [] (placing (drop k names) l) r s ≡ placings names l k r s
 behind_placing names l k r s q =
     at_drop_more (λ cs. afters [] (placing cs l) r s) names k 0 q
-    ∙ ap (λ x. placed (drop (k + 1) names) l r (set_name (add_node_lem s Dead) (get_or names k 0) s.size) ++ x) (flat-each (placed (drop (k + 1) names) l r) (set_name s (get_or names k 0)) s.size)
+    ∙ ap (λ x. placed (drop (k + 1) names) l r (set_name (add_node s Dead) (get_or names k 0) s.size) ++ x) (flat-each (placed (drop (k + 1) names) l r) (set_name s (get_or names k 0)) s.size)
 
 pub behind_placed : (names : List ℕ) (l : List Atom) (k r : ℕ) (s : Shape) → length names ≤ k → afters [] (placing (drop k names) l) r s ≡ item (adding l) r s
 behind_placed names l k r s q = at_drop_all (λ cs. afters [] (placing cs l) r s) names k q
@@ -37,7 +37,7 @@ added (Eq x y) l r s = elim (cases_Bool (eqb (s.name x) (s.name y))) [ inl t ↦
 added (Neq x y) l r s = elim (cases_Bool (eqb (s.name x) (s.name y))) [ inl t ↦ rw t | inr t ↦ rw t ]
 added (Next x y) l r s = elim (cases_Bool (eqb (s.name x) 0)) [
   | inl t ↦ rw t
-  | inr t ↦ elim (cases_Bool (is_dead_lem (s.edge (s.name x)))) [ inl d ↦ rw (t, d) | inr d ↦ rw (t, d) ]
+  | inr t ↦ elim (cases_Bool (is_dead (s.edge (s.name x)))) [ inl d ↦ rw (t, d) | inr d ↦ rw (t, d) ]
 ]
 added (Lseg x y) l r s = refl
 
@@ -52,18 +52,18 @@ flat-touch : (f : Shape → Shape) (r : ℕ) (us : List Shape) → flat (λ c. i
 flat-touch f r [] = refl
 flat-touch f r (u ∷ us) = ap (λ l. item running r (f u) ++ l) (flat-touch f r us)
 
-flat-new : (x r : ℕ) (s : Shape) (m : ℕ) → flat (λ c. item running c.row c.shape) (gather m (λ j. cond (eqb j 0 || not (is_dead_lem (s.edge j))) [] (at (suc r) (new_at_lem s x j)))) ≡ gather m (new_at x r s)
+flat-new : (x r : ℕ) (s : Shape) (m : ℕ) → flat (λ c. item running c.row c.shape) (gather m (λ j. cond (eqb j 0 || not (is_dead (s.edge j))) [] (at (suc r) (new_at_lem s x j)))) ≡ gather m (new_at x r s)
 flat-new x r s zero = refl
 flat-new x r s (suc m) =
     let ih = flat-new x r s m in
-    elim (cases_Bool (eqb m 0 || not (is_dead_lem (s.edge m)))) [ inl t ↦ rw t ih | inr t ↦ rw t (ap (λ l. item running (suc r) (new_at_lem s x m) ++ l) ih) ]
+    elim (cases_Bool (eqb m 0 || not (is_dead (s.edge m)))) [ inl t ↦ rw t ih | inr t ↦ rw t (ap (λ l. item running (suc r) (new_at_lem s x m) ++ l) ih) ]
 
 pub by_step : (w : Command) (r : ℕ) (s : Shape) → flat (λ c. item running c.row c.shape) (nexts w r s) ≡ nexts_by (step_of w) r s
 by_step (assign x e) r s = refl
 by_step (load x y) r s = flat-touch (λ u. set_name u x (aim (u.edge (u.name y)))) (suc r) (cells s (s.name y))
-by_step (store x e) r s = flat-touch (λ u. set_edge_lem u (u.name x) (Cell (u.name e))) (suc r) (cells s (s.name x))
+by_step (store x e) r s = flat-touch (λ u. set_edge u (u.name x) (Cell (u.name e))) (suc r) (cells s (s.name x))
 by_step (new x) r s = ap (λ l. item running (suc r) (new_apart s x) ++ l) (flat-new x r s s.size)
-by_step (free x) r s = flat-touch (λ u. set_edge_lem u (u.name x) Dead) (suc r) (cells s (s.name x))
+by_step (free x) r s = flat-touch (λ u. set_edge u (u.name x) Dead) (suc r) (cells s (s.name x))
 by_step (jump t) r s = refl
 by_step (branch e f t) r s = elim (cases_Bool (eqb (s.name e) (s.name f))) [ inl b ↦ rw b | inr b ↦ rw b ]
 by_step (cut l) r s = refl

@@ -4,7 +4,7 @@ use Rattle.heap.specs.declared.atoms.Atom.{Atom}
 use Rattle.pieces.specs.declared.shapes.Edge.TheVariants.{Dead}
 use Rattle.pieces.specs.ModelChoices.{gather}
 use Rattle.pieces.specs.ModelOpening.{clash}
-use Rattle.pieces.specs.ModelShapes.{Shape, set_name, add_node_lem}
+use Rattle.pieces.specs.ModelShapes.{Shape, set_name, add_node}
 use Rattle.pieces.specs.ModelStages.{Item, item, placing, placed}
 use Rattle.cases.specs.declared.cases.Case.{Case}
 use Rattle.cases.specs.declared.cases.Stage.TheVariants.{Placing}

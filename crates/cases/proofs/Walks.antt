@@ -9,7 +9,7 @@ use Rattle.heap.specs.declared.atoms.Atom.TheVariants.{Eq, Neq, Next, Lseg}
 use Rattle.pieces.specs.declared.shapes.Edge.{Edge}
 use Rattle.pieces.specs.declared.shapes.Edge.TheVariants.{Dead, Cell, Segment}
 use Rattle.pieces.specs.Pieces.{put}
-use Rattle.pieces.specs.ModelCover.{walk, all_dead_lem, is_dead_lem, if_cell_lem, covered}
+use Rattle.pieces.specs.ModelCover.{walk, all_dead, is_dead, if_cell, covered}
 use Rattle.pieces.proofs.CoverExact.{dead_all, all_dead_from}
 use Rattle.cases.specs.Covers.{edges_of, Inside, Walked}
 
@@ -64,16 +64,16 @@ walked_covers m name l r left None w = rw w
 walked_covers m name l r left (Some edge) w = rw (w.0, w.1)
 
 -- all edges are taken, or one is left
-pub one_left : (m : ℕ) (edge : ℕ → Edge) (k : ℕ) → k < m → is_dead_lem (edge k) ≡ false → false ≡ all_dead_lem m edge
-one_left m edge k q n = elim (cases_Bool (all_dead_lem m edge)) [
+pub one_left : (m : ℕ) (edge : ℕ → Edge) (k : ℕ) → k < m → is_dead (edge k) ≡ false → false ≡ all_dead m edge
+one_left m edge k q n = elim (cases_Bool (all_dead m edge)) [
   | inr t ↦ sym t
   | inl t ↦ let d = dead_all m (λ x. x) (λ x. x) m edge t k q in absurd (grind (arith, nat_tests))
 ]
 
-pub none_left : (m : ℕ) (edge : ℕ → Edge) → ((k : ℕ) → k < m → is_dead_lem (edge k) ≡ true) → true ≡ all_dead_lem m edge
+pub none_left : (m : ℕ) (edge : ℕ → Edge) → ((k : ℕ) → k < m → is_dead (edge k) ≡ true) → true ≡ all_dead m edge
 none_left m edge f = sym (all_dead_from m (λ x. x) (λ x. x) m edge (λ k q. let d = f k q in grind (arith, nat_tests)))
 
-pub next_taken : (m : ℕ) (name : ℕ → ℕ) (l : List Atom) (a : Atom) (x y i to : ℕ) (edge left : ℕ → Edge) (r : Bool) → a ≡ Next x y → i ≡ name x → to ≡ name y → r ≡ if_cell_lem (edge i) to → left ≡ put edge i Dead
+pub next_taken : (m : ℕ) (name : ℕ → ℕ) (l : List Atom) (a : Atom) (x y i to : ℕ) (edge left : ℕ → Edge) (r : Bool) → a ≡ Next x y → i ≡ name x → to ≡ name y → r ≡ if_cell (edge i) to → left ≡ put edge i Dead
     → covered m name (a ∷ l) edge ≡ (r && covered m name l left)
 next_taken m name l a x y i to edge left r p q s t u = rw (p, t, u, q, s)
 
@@ -82,5 +82,5 @@ pub cover_on : (m : ℕ) (name : ℕ → ℕ) (xs : List Atom) (i : ℕ) (d : At
     → ((l : List Atom) → covered m name (get_or xs i d ∷ l) edge ≡ (r && covered m name l left)) → (r && covered m name (drop (i + 1) xs) left) ≡ whole
 cover_on m name xs i d edge left r whole q e f = sym (f (drop (i + 1) xs)) ∙ (sym (at_drop_more (λ l. covered m name l edge) xs i d q) ∙ e)
 
-pub cover_end : (m : ℕ) (name : ℕ → ℕ) (xs : List Atom) (i : ℕ) (edge : ℕ → Edge) (whole : Bool) → length xs ≤ i → covered m name (drop i xs) edge ≡ whole → all_dead_lem m edge ≡ whole
+pub cover_end : (m : ℕ) (name : ℕ → ℕ) (xs : List Atom) (i : ℕ) (edge : ℕ → Edge) (whole : Bool) → length xs ≤ i → covered m name (drop i xs) edge ≡ whole → all_dead m edge ≡ whole
 cover_end m name xs i edge whole q e = sym (at_drop_all (λ l. covered m name l edge) xs i q) ∙ e

@@ -3,8 +3,8 @@ use Rattle.std.specs.Prelude.{ℕ, suc, ◌<◌, ◌≤◌, Bool, true, false, c
 use Rattle.sheet.specs.Routines.{Command, assign, load, store, new, free, jump, branch, cut, call, done}
 use Rattle.pieces.specs.declared.shapes.Edge.TheVariants.{Dead, Cell}
 use Rattle.pieces.specs.ModelChoices.{flat, gather}
-use Rattle.pieces.specs.ModelShapes.{Shape, set_edge_lem, set_name, new_at_lem, new_apart}
-use Rattle.pieces.specs.ModelCover.{is_dead_lem}
+use Rattle.pieces.specs.ModelShapes.{Shape, set_edge, set_name, new_at_lem, new_apart}
+use Rattle.pieces.specs.ModelCover.{is_dead}
 use Rattle.pieces.specs.ModelCases.{cells, aim}
 use Rattle.pieces.specs.ModelStages.{Item, item, running}
 use Rattle.cases.specs.declared.steps.Step.{Step}
@@ -26,9 +26,9 @@ step_of done = Close
 abbrev pub act_of : Step → Shape → Shape
 act_of (Set x e) u = u
 act_of (Load x y) u = set_name u x (aim (u.edge (u.name y)))
-act_of (Store x e) u = set_edge_lem u (u.name x) (Cell (u.name e))
+act_of (Store x e) u = set_edge u (u.name x) (Cell (u.name e))
 act_of (New x) u = u
-act_of (Free x) u = set_edge_lem u (u.name x) Dead
+act_of (Free x) u = set_edge u (u.name x) Dead
 act_of (Jump t) u = u
 act_of (Branch e f t) u = u
 act_of Close u = u
@@ -42,7 +42,7 @@ touching w r us = flat (λ u. runs_at (suc r) (act_of w u)) us
 
 -- a new cell at the node j, if it is dead and not nil
 abbrev pub new_at : ℕ → ℕ → Shape → ℕ → List Item
-new_at x r s j = cond (j == 0 || not (is_dead_lem (s.edge j))) [] (runs_at (suc r) (new_at_lem s x j))
+new_at x r s j = cond (j == 0 || not (is_dead (s.edge j))) [] (runs_at (suc r) (new_at_lem s x j))
 
 -- the items behind an item at a row
 abbrev pub nexts_by : Step → ℕ → Shape → List Item
@@ -58,10 +58,10 @@ nexts_by Close r s = []
 -- the row touches a dead node
 abbrev pub misses_by : Step → Shape → Bool
 misses_by (Set x e) s = false
-misses_by (Load x y) s = is_dead_lem (s.edge (s.name y))
-misses_by (Store x e) s = is_dead_lem (s.edge (s.name x))
+misses_by (Load x y) s = is_dead (s.edge (s.name y))
+misses_by (Store x e) s = is_dead (s.edge (s.name x))
 misses_by (New x) s = false
-misses_by (Free x) s = is_dead_lem (s.edge (s.name x))
+misses_by (Free x) s = is_dead (s.edge (s.name x))
 misses_by (Jump t) s = false
 misses_by (Branch e f t) s = false
 misses_by Close s = false

@@ -1,7 +1,7 @@
 // The closing test: whether a list of atoms holds of everything that a case describes.
 ghost use Rattle.std.specs.Prelude.{◌≡◌, ℕ, ◌<◌, ◌≤◌, ◌&&◌, List, ◌∷◌};
 ghost use Rattle.heap.specs.declared.atoms.Atom.{Atom as AtomT};
-ghost use Rattle.pieces.specs.ModelCover.{all_dead_lem as all_dead, covered, is_dead_lem as is_dead, walk as walk_over, if_cell_lem as if_cell};
+ghost use Rattle.pieces.specs.ModelCover.{all_dead, covered, is_dead, walk as walk_over, if_cell};
 ghost use Rattle.pieces.specs.ModelShapes.{SoundShape};
 ghost use Rattle.pieces.specs.Pieces.{put};
 ghost use Rattle.cases.specs.Covers.{edges_of, Inside, Walked};

@@ -3,9 +3,9 @@ ghost use Rattle.std.specs.Prelude.{◌≡◌, ℕ, suc, ◌+◌, ◌<◌, ◌�
 ghost use Rattle.heap.specs.Piles.{capacity, entries};
 ghost use Rattle.pieces.specs.ModelChoices.{gather};
 ghost use Rattle.pieces.specs.ModelOpening.{clashes, clash as clash_in};
-ghost use Rattle.pieces.specs.ModelShapes.{SoundShape, set_name as set_name, set_edge_lem as set_edge, add_node_lem as add_node};
+ghost use Rattle.pieces.specs.ModelShapes.{SoundShape, set_name as set_name, set_edge, add_node};
 ghost use Rattle.pieces.specs.Pieces.{mem};
-ghost use Rattle.pieces.specs.ModelCover.{is_dead_lem as is_dead};
+ghost use Rattle.pieces.specs.ModelCover.{is_dead};
 ghost use Rattle.pieces.specs.ModelStages.{laid};
 ghost use Rattle.cases.specs.Items.{shape_of, LaidAs, SmallAtoms, SmallNames};
 ghost use Rattle.pieces.specs.ModelBounds.{AtomSmall};

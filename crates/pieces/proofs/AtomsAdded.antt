@@ -8,9 +8,9 @@ use Rattle.heap.specs.declared.atoms.Atom.TheVariants.{Eq, Neq, Next, Lseg}
 use Rattle.pieces.specs.declared.shapes.Edge.{Edge}
 use Rattle.pieces.specs.declared.shapes.Edge.TheVariants.{Dead, Cell, Segment}
 use Rattle.pieces.specs.Pieces.{put}
-use Rattle.pieces.specs.ModelShapes.{Sound, Model, Shape, Fits, SoundShape, set_edge_lem}
+use Rattle.pieces.specs.ModelShapes.{Sound, Model, Shape, Fits, SoundShape, set_edge}
 use Rattle.pieces.specs.ModelChoices.{SomeOf}
-use Rattle.pieces.specs.ModelCover.{is_dead_lem}
+use Rattle.pieces.specs.ModelCover.{is_dead}
 use Rattle.pieces.specs.ModelOpening.{bare, add}
 use Rattle.pieces.specs.ModelStages.{nothing_live}
 use Rattle.pieces.proofs.ShapeModels.{val_apart, cases_edge, take_as, give}
@@ -57,7 +57,7 @@ module _ (env : ℕ → ℕ) (x y : ℕ) (s : Shape) (w : SoundShape s) where
     | inr t ↦ elim (rw t at S) [ inl F ↦ ((λ e. let n = F.model.inj (s.name x) (s.name y) (w.names_in x) (w.names_in y) (sym (F.named x) ∙ e ∙ F.named y) in grind (arith, nat_tests)), F) | inr b ↦ absurd b ]
   ]
 
-  next_fits : (h k l : Heap) → Split h k l → IsCell (env x) (env y) k → (F : Fits s env l) → s.edge (s.name x) ≡ Dead → Fits (set_edge_lem s (s.name x) (Cell (s.name y))) env h
+  next_fits : (h k l : Heap) → Split h k l → IsCell (env x) (env y) k → (F : Fits s env l) → s.edge (s.name x) ≡ Dead → Fits (set_edge s (s.name x) (Cell (s.name y))) env h
   next_fits h k l sp C F d =
       let q = w.names_in x in let vx = F.named x in let vy = F.named y in let cl = C.links in
       record {
@@ -82,7 +82,7 @@ module _ (env : ℕ → ℕ) (x y : ℕ) (s : Shape) (w : SoundShape s) where
   next_from h S = elim (cases_Bool (eqb (s.name x) 0)) [
     | inl t ↦ absurd (rw t at S)
     | inr t ↦ elim (cases_edge (s.edge (s.name x))) [
-      | inr e ↦ let d : is_dead_lem (s.edge (s.name x)) ≡ false = grind (arith, nat_tests) in absurd (rw (t, d) at S)
+      | inr e ↦ let d : is_dead (s.edge (s.name x)) ≡ false = grind (arith, nat_tests) in absurd (rw (t, d) at S)
       | inl e ↦ elim (rw (t, e) at S) [
         | inr b ↦ absurd b
         | inl F ↦

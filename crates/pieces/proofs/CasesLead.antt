@@ -12,7 +12,7 @@ use Rattle.pieces.specs.declared.shapes.Edge.TheVariants.{Dead, Cell, Segment}
 use Rattle.pieces.specs.Pieces.{State, Does, Runs, here, on, Contract, touched, closing, Misses, Lives, Breaks, Keeps}
 use Rattle.pieces.specs.ModelChoices.{SomeOf}
 use Rattle.pieces.specs.ModelShapes.{Shape, Fits, SoundShape}
-use Rattle.pieces.specs.ModelCover.{is_dead_lem, covered}
+use Rattle.pieces.specs.ModelCover.{is_dead, covered}
 use Rattle.pieces.specs.ModelCases.{Case, nexts, onward, Of, Leads, dead_at, misses, uncovered, breaks}
 use Rattle.pieces.proofs.ShapeModels.{cases_edge}
 use Rattle.pieces.proofs.ShapeSteps.{dead_node}
@@ -50,7 +50,7 @@ alive : (row : Command) (s : Shape) (st : State) → SoundShape s → Fits s st.
 alive row s st w F t x e =
     live_some (st.heap (st.env x)) (λ d.
     let z = dead_node s.size s.edge F.val st.heap F.model (s.name x) (w.names_in x) (ap st.heap (sym (F.named x)) ∙ d) in
-    let q : is_dead_lem (s.edge (s.name x)) ≡ false = rw e at t in grind (arith, nat_tests))
+    let q : is_dead (s.edge (s.name x)) ≡ false = rw e at t in grind (arith, nat_tests))
 
 missing : (row : Command) (s : Shape) (r : ℕ) → SoundShape s → (o : Option ℕ) → touched row ≡ o → dead_at o s ≡ true → (st : State) × (st.row ≡ r) × Fits s st.env st.heap × Misses row st
 missing row s r w None e t = absurd (grind (arith, nat_tests))

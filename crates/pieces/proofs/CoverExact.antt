@@ -8,11 +8,11 @@ use Rattle.pieces.specs.Pieces.{mem}
 use Rattle.pieces.specs.declared.shapes.Edge.{Edge}
 use Rattle.pieces.specs.declared.shapes.Edge.TheVariants.{Dead, Cell, Segment}
 use Rattle.pieces.specs.Pieces.{put}
-use Rattle.pieces.specs.ModelShapes.{Sound, Model, Shape, Fits, SoundShape, short, long, new_at_lem, new_apart, Allocates, Two, set_edge_lem, set_name, add_node_lem}
+use Rattle.pieces.specs.ModelShapes.{Sound, Model, Shape, Fits, SoundShape, short, long, new_at_lem, new_apart, Allocates, Two, set_edge, set_name, add_node}
 use Rattle.heap.specs.declared.atoms.Atom.{Atom}
 use Rattle.heap.specs.declared.atoms.Atom.TheVariants.{Eq, Neq, Next, Lseg}
 use Rattle.heap.specs.Lists.{Holds}
-use Rattle.pieces.specs.ModelCover.{Takes, is_dead_lem, all_dead_lem, walk, if_cell_lem, covered}
+use Rattle.pieces.specs.ModelCover.{Takes, is_dead, all_dead, walk, if_cell, covered}
 use Rattle.pieces.proofs.SegmentRuns.{run_join, minus-++, lseg_run, run_lseg, run_dead, minus-in, minus-out, minus-dead, run_agree, two_cells, without-same, run_unique}
 use Rattle.pieces.proofs.ShapeSteps.{First, first, run_end, dead_node}
 use Rattle.pieces.proofs.ShapeModels.{run_first, val_apart, starts, run_live, cases_edge, apart, off, take, take_as, give, widen, narrow}
@@ -102,14 +102,14 @@ module _ (m : ℕ) (name : ℕ → ℕ) (val : ℕ → ℕ) where
   ]
 
   -- nothing is left where every node is dead
-  pub dead_all : (n : ℕ) (edge : ℕ → Edge) → all_dead_lem n edge ≡ true → (k : ℕ) → k < n → edge k ≡ Dead
+  pub dead_all : (n : ℕ) (edge : ℕ → Edge) → all_dead n edge ≡ true → (k : ℕ) → k < n → edge k ≡ Dead
   dead_all zero edge e k q = absurd (omega arith)
   dead_all (suc n) edge e k q = elim (cases_eq k n) [
     | inl s ↦ elim (cases_edge (edge n)) [ inl d ↦ ap edge s ∙ d | inr (inl (t, d)) ↦ grind (arith, nat_tests) | inr (inr (t, d)) ↦ grind (arith, nat_tests) ]
-    | inr d ↦ dead_all n edge (and_parts (is_dead_lem (edge n)) (all_dead_lem n edge) e).1 k (omega arith)
+    | inr d ↦ dead_all n edge (and_parts (is_dead (edge n)) (all_dead n edge) e).1 k (omega arith)
   ]
 
-  pub nothing : (edge : ℕ → Edge) (h : Heap) → Model m edge val h → all_dead_lem m edge ≡ true → Empty h
+  pub nothing : (edge : ℕ → Edge) (h : Heap) → Model m edge val h → all_dead m edge ≡ true → Empty h
   nothing edge h M e a = elim (M.all a) [
     | inl d ↦ d
     | inr (p, on) ↦ let d = M.dead (M.own a) p (dead_all m edge e (M.own a) p) in grind (arith, nat_tests)
@@ -127,7 +127,7 @@ module _ (m : ℕ) (name : ℕ → ℕ) (val : ℕ → ℕ) where
       let a = v x in let b = v y in
       ((λ s. let n = M.inj (name x) (name y) (w.names_in x) (w.names_in y) (cc) in grind (arith, nat_tests)), covered_sound r edge env h w M v p.1)
   covered_sound (Next x y ∷ r) edge env h w M v e =
-      let p = and_parts (if_cell_lem (edge (name x)) (name y)) (covered m name r (put edge (name x) Dead)) e in
+      let p = and_parts (if_cell (edge (name x)) (name y)) (covered m name r (put edge (name x) Dead)) e in
       let a = v x in let b = v y in let i = name x in let q = w.names_in x in
       elim (cases_edge (edge i)) [
         | inl d ↦ absurd (grind (arith, nat_tests))
@@ -152,7 +152,7 @@ module _ (m : ℕ) (name : ℕ → ℕ) (val : ℕ → ℕ) where
 -- how many edges are left
 abbrev pub count : ℕ → (ℕ → Edge) → ℕ
 count zero edge = 0
-count (suc m) edge = cond (is_dead_lem (edge m)) (count m edge) (suc (count m edge))
+count (suc m) edge = cond (is_dead (edge m)) (count m edge) (suc (count m edge))
 
 pub count_le : (m : ℕ) (edge : ℕ → Edge) → count m edge ≤ m
 count_le zero edge = omega arith
@@ -165,7 +165,7 @@ count_past (suc m) edge i q = let ih = count_past m edge i (omega arith) in let 
 count-put : (m : ℕ) (edge : ℕ → Edge) (i : ℕ) → i < m → edge i ≢ Dead → count m edge ≡ suc (count m (put edge i Dead))
 count-put zero edge i q n = absurd (omega arith)
 count-put (suc m) edge i q n = elim (cases_eq i m) [
-  | inl s ↦ let p = count_past m edge i (omega arith) in let e : put edge i Dead m ≡ Dead = grind (arith, nat_tests) in let f : is_dead_lem (edge m) ≡ false = (elim (cases_edge (edge m)) [ inl d ↦ absurd (n (ap edge s ∙ d)) | inr d ↦ grind (arith, nat_tests) ]) in cc
+  | inl s ↦ let p = count_past m edge i (omega arith) in let e : put edge i Dead m ≡ Dead = grind (arith, nat_tests) in let f : is_dead (edge m) ≡ false = (elim (cases_edge (edge m)) [ inl d ↦ absurd (n (ap edge s ∙ d)) | inr d ↦ grind (arith, nat_tests) ]) in cc
   | inr d ↦ let ih = count-put m edge i (omega arith) n in let e : put edge i Dead m ≡ edge m = grind (arith, nat_tests) in rw e (grind (arith, nat_tests))
 ]
 
@@ -259,7 +259,7 @@ module _ (m : ℕ) (name : ℕ → ℕ) (val : ℕ → ℕ) where
   walk_complete zero = complete_none
   walk_complete (suc n) = complete_step n (walk_complete n)
 
-  pub all_dead_from : (n : ℕ) (edge : ℕ → Edge) → ((k : ℕ) → k < n → edge k ≡ Dead) → all_dead_lem n edge ≡ true
+  pub all_dead_from : (n : ℕ) (edge : ℕ → Edge) → ((k : ℕ) → k < n → edge k ≡ Dead) → all_dead n edge ≡ true
   all_dead_from zero edge f = refl
   all_dead_from (suc n) edge f = let a = f n (omega arith) in let b = all_dead_from n edge (λ k q. f k (omega arith)) in cc
 

@@ -19,7 +19,7 @@ use Rattle.sheet.proofs.WeightsExact.{most, weights_bounded, way_bounded, way_th
 use Rattle.heap.specs.Lists.{renamed}
 use Rattle.pieces.specs.Pieces.{given, Contract, Opening, opening, behind, from}
 use Rattle.pieces.specs.ModelCases.{goes_well, Forward}
-use Rattle.pieces.specs.ModelBounds.{Small, AtomSmall, weight_from_lem, WeighsAt}
+use Rattle.pieces.specs.ModelBounds.{Small, AtomSmall, weight_from, WeighsAt}
 
 -- an entry of a list of which something holds throughout
 pub all_at : {A : Type 0} (P : A → Type 0) (xs : List A) (d : A) (i : ℕ) → All P xs → i < length xs → P (get_or xs i d)
@@ -157,19 +157,19 @@ module _ (R : Routine) (F : WellFormed R) where
   forward i = well (row_at rows i) i (rows_small i) (in_place_at i)
 
   -- weights
-  WIn : (r : ℕ) → 1 ≤ r → weight_from_lem rows r ≡ most rows r
+  WIn : (r : ℕ) → 1 ≤ r → weight_from rows r ≡ most rows r
   WIn r q = let e : eqb r 0 ≡ false = grind (arith, nat_tests) in rw e
 
-  WLow : (r : ℕ) → weight_from_lem rows r ≤ 41
+  WLow : (r : ℕ) → weight_from rows r ≤ 41
   WLow r = elim (cases_eq r 0) [
     | inl z ↦ let e : eqb r 0 ≡ true = grind (arith, nat_tests) in rw e (omega arith)
     | inr n ↦ let e = WIn r (omega arith) in let b = weights_bounded 1 rows (r - 1) in let f = F.few_rows in omega arith
   ]
 
-  WNext : (r : ℕ) → 1 ≤ r → weight_from_lem rows r ≤ 40
+  WNext : (r : ℕ) → 1 ≤ r → weight_from rows r ≤ 40
   WNext r q = let e = WIn r q in let b = weights_bounded 1 rows (r - 1) in let f = F.few_rows in omega arith
 
-  lead : (r j : ℕ) → 1 ≤ j → Leads (row_at rows r) r j → (r ≡ 0) ⊎ (weight_of (command_kind (row_at rows r)) + weight_from_lem rows j ≤ weight_from_lem rows r)
+  lead : (r j : ℕ) → 1 ≤ j → Leads (row_at rows r) r j → (r ≡ 0) ⊎ (weight_of (command_kind (row_at rows r)) + weight_from rows j ≤ weight_from rows r)
   lead r j q l = elim (cases_eq r 0) [
     | inl z ↦ inl z
     | inr n ↦
@@ -177,13 +177,13 @@ module _ (R : Routine) (F : WellFormed R) where
         let w = way_bounded rows F.in_place (omega arith) (step {i = r} l (way_there rows F.in_place j q)) in inr (omega arith)
   ]
 
-  eased : (c : Command) (r j : ℕ) → c ≡ row_at rows r → 1 ≤ j → Leads c r j → weight_of (command_kind c) ≤ 1 → weight_of (command_kind c) + weight_from_lem rows j ≤ weight_from_lem rows r
+  eased : (c : Command) (r j : ℕ) → c ≡ row_at rows r → 1 ≤ j → Leads c r j → weight_of (command_kind c) ≤ 1 → weight_of (command_kind c) + weight_from rows j ≤ weight_from rows r
   eased c r j q p l s = elim (lead r j p (subst (λ c. Leads c r j) q l)) [
-    | inr b ↦ subst (λ c. weight_of (command_kind c) + weight_from_lem rows j ≤ weight_from_lem rows r) (sym q) b
-    | inl z ↦ let a = WNext j p in let e : weight_from_lem rows r ≡ 41 = (let e : eqb r 0 ≡ true = grind (arith, nat_tests) in rw e) in omega arith
+    | inr b ↦ subst (λ c. weight_of (command_kind c) + weight_from rows j ≤ weight_from rows r) (sym q) b
+    | inl z ↦ let a = WNext j p in let e : weight_from rows r ≡ 41 = (let e : eqb r 0 ≡ true = grind (arith, nat_tests) in rw e) in omega arith
   ]
 
-  weighs_by : (c : Command) (r : ℕ) → Small (length rows) c → c ≡ row_at rows r → WeighsAt (weight_from_lem rows) r c
+  weighs_by : (c : Command) (r : ℕ) → Small (length rows) c → c ≡ row_at rows r → WeighsAt (weight_from rows) r c
   weighs_by (assign x e) r m q = let l = eased (assign x e) r (suc r) q (omega arith) refl (omega arith) in omega arith
   weighs_by (load x y) r m q = let l = eased (load x y) r (suc r) q (omega arith) refl (omega arith) in omega arith
   weighs_by (store x e) r m q = let l = eased (store x e) r (suc r) q (omega arith) refl (omega arith) in omega arith
@@ -197,12 +197,12 @@ module _ (R : Routine) (F : WellFormed R) where
   weighs_by (call x c y z i j l) r m q = tt
   weighs_by done r m q = tt
 
-  pub weighs : (r : ℕ) → WeighsAt (weight_from_lem rows) r (row_at rows r)
+  pub weighs : (r : ℕ) → WeighsAt (weight_from rows) r (row_at rows r)
   weighs r = weighs_by (row_at rows r) r (rows_small r) refl
 
   -- a piece weighs at most 8
-  light_at : (p : ℕ) → Opens rows p → weight_from_lem rows (suc p) ≤ 8
-  light_at p o = elim (cases_lt 8 (weight_from_lem rows (suc p))) [
+  light_at : (p : ℕ) → Opens rows p → weight_from rows (suc p) ≤ 8
+  light_at p o = elim (cases_lt 8 (weight_from rows (suc p))) [
     | inr q ↦ q
     | inl q ↦ let e = WIn (suc p) (omega arith) in absurd (F.light p (record { opening = o; weight = most rows (suc p); over = omega arith; way = way_there rows F.in_place (suc p) (omega arith) }))
   ]
@@ -221,7 +221,7 @@ module _ (R : Routine) (F : WellFormed R) where
 
   -- what is known of a piece that opens
   pub record Opened (o : Opening) : Type 0 where
-    pub light : weight_from_lem rows o.row ≤ 8
+    pub light : weight_from rows o.row ≤ 8
     pub low : o.row ≤ 41
     pub some_row : 1 ≤ o.row
     pub few : (k : ℕ) × (k ≤ 6) × (o.names ≡ from 1 k ++ from 7 R.ghosts)
@@ -230,7 +230,7 @@ module _ (R : Routine) (F : WellFormed R) where
   opening_is callee zero o q =
       let z : record { names = from 1 R.arguments ++ from 7 R.ghosts; list = R.before; row = 1 } ≡ o = cc in
       let r : 1 ≡ o.row = ap (λ v. v.row) z in let l = light_at 0 (inl refl) in
-      record { light = subst (λ n. weight_from_lem rows n ≤ 8) r l; low = omega arith; some_row = omega arith; few = (R.arguments, (let a = F.few_arguments in omega arith), sym (ap (λ v. v.names) z)) }
+      record { light = subst (λ n. weight_from rows n ≤ 8) r l; low = omega arith; some_row = omega arith; few = (R.arguments, (let a = F.few_arguments in omega arith), sym (ap (λ v. v.names) z)) }
   opening_is callee (suc p) o q =
       let s = opens_some callee (from 1 R.variables ++ from 7 R.ghosts) (suc (suc p)) (get_or rows p done) o q in
       let within : p < length rows = (elim (cases_lt p (length rows)) [
@@ -240,4 +240,4 @@ module _ (R : Routine) (F : WellFormed R) where
       let e : suc p - 1 ≡ p = omega arith in
       let l = light_at (suc p) (inr (omega arith, omega arith, subst (λ n. opens (get_or rows n done) ≡ true) (sym e) s.0)) in
       let f = F.few_rows in let r = s.1 in
-      record { light = subst (λ n. weight_from_lem rows n ≤ 8) (sym r) l; low = omega arith; some_row = omega arith; few = (R.variables, F.few_variables, s.2) }
+      record { light = subst (λ n. weight_from rows n ≤ 8) (sym r) l; low = omega arith; some_row = omega arith; few = (R.variables, F.few_variables, s.2) }

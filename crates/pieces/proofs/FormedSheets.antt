@@ -10,7 +10,7 @@ use Rattle.sheet.specs.Routines.{Command, assign, load, store, new, free, jump, 
 use Rattle.sheet.specs.Formed.{WellFormed}
 use Rattle.sheet.specs.Flow.{row_at}
 use Rattle.pieces.specs.ModelCases.{goes_well}
-use Rattle.pieces.specs.ModelBounds.{Small, AtomSmall, WeighsAt, weight_from_lem, Formed}
+use Rattle.pieces.specs.ModelBounds.{Small, AtomSmall, WeighsAt, weight_from, Formed}
 use Rattle.pieces.proofs.FormedRows.{all_at, rows_small, row_list, before_names, after_names, forward, weighs, opening_is}
 
 module _ {A : Type 0} (w : ∥ A ∥₁) where
@@ -55,7 +55,7 @@ sheet_formed R w = record {
   few_arguments = ∥∥₁_elim w le_prop (λ F. let a = F.few_arguments in omega arith);
   few_ghosts = ∥∥₁_elim w le_prop (λ F. F.few_ghosts);
   forward = λ n. tested w (goes_well R.rows n (row_at R.rows n)) (λ F. forward R F n);
-  weighs = λ r. weighs_so w (weight_from_lem R.rows) r (row_at R.rows r) (λ F. weighs R F r);
+  weighs = λ r. weighs_so w (weight_from R.rows) r (row_at R.rows r) (λ F. weighs R F r);
   small = λ r. small_so w (length R.rows) (row_at R.rows r) (λ F. rows_small R F r);
   light = λ callee p o e. ∥∥₁_elim w le_prop (λ F. (opening_is R F callee p o e).light);
   low = λ callee p o e. ∥∥₁_elim w le_prop (λ F. (opening_is R F callee p o e).low);

@@ -12,11 +12,11 @@ use Rattle.pieces.specs.declared.shapes.Edge.{Edge}
 use Rattle.pieces.specs.declared.shapes.Edge.TheVariants.{Dead, Cell, Segment}
 use Rattle.pieces.specs.Pieces.{put, mem, State, Runs, here, Opening, Allowed}
 use Rattle.pieces.specs.ModelChoices.{SomeOf, All_of, Has, flat, gather}
-use Rattle.pieces.specs.ModelShapes.{Sound, Shape, Fits, SoundShape, set_edge_lem, set_name, add_node_lem}
-use Rattle.pieces.specs.ModelCover.{is_dead_lem}
+use Rattle.pieces.specs.ModelShapes.{Sound, Shape, Fits, SoundShape, set_edge, set_name, add_node}
+use Rattle.pieces.specs.ModelCover.{is_dead}
 use Rattle.pieces.specs.ModelOpening.{place, add, bare, clash}
 use Rattle.pieces.specs.ModelCases.{Case, onward, hit, Leads, Of}
-use Rattle.pieces.specs.ModelStages.{Stage, placing, adding, linking, running, Item, item, placed, laid, afters, cleared, nothing_live, Says, Saying, Apart, Proper, Kept, opened, item_hits, nexts_of, hits_of_lem, Reaches}
+use Rattle.pieces.specs.ModelStages.{Stage, placing, adding, linking, running, Item, item, placed, laid, afters, cleared, nothing_live, Says, Saying, Apart, Proper, Kept, opened, item_hits, nexts_of, hits_of, Reaches}
 use Rattle.pieces.proofs.Choices.{some_flat, flat_some, some_map, some_pull, some_map_all, all_flat, all_gather, all_fst}
 use Rattle.pieces.proofs.RowsExact.{step_sound, sound_name, sound_apart, sound_cell}
 use Rattle.pieces.proofs.CasesLead.{leads_to, leads_from, Decides}
@@ -36,7 +36,7 @@ add_sound (Eq x y) s t w = elim (cases_Bool (eqb (s.name x) (s.name y))) [ inl t
 add_sound (Neq x y) s t w = elim (cases_Bool (eqb (s.name x) (s.name y))) [ inl t ↦ rw t tt | inr t ↦ rw t (w, tt) ]
 add_sound (Next x y) s t w = elim (cases_Bool (eqb (s.name x) 0)) [
   | inl t ↦ rw t tt
-  | inr t ↦ elim (cases_Bool (is_dead_lem (s.edge (s.name x)))) [
+  | inr t ↦ elim (cases_Bool (is_dead (s.edge (s.name x)))) [
     | inl d ↦ rw (t, d) (sound_cell s (s.name x) (s.name y) w (λ z. grind (arith, nat_tests)) (w.names_in y), tt)
     | inr d ↦ rw (t, d) tt
   ]
@@ -56,7 +56,7 @@ placed_kept cs l r u x = elim (cases_Bool (clash cs u l)) [ inl t ↦ rw t tt | 
 place_kept : (c : ℕ) (cs : List ℕ) (l : List Atom) (r : ℕ) (s : Shape) → Proper (placing (c ∷ cs) l) s → All_of (Like r) (flat (placed cs l r) (place c s))
 place_kept c cs l r s (w, dead, unplaced, ap) = all_flat (Like r) (Proper (placing cs l)) (placed cs l r) (placed_kept cs l r) (place c s) (
   (
-    sound_name (add_node_lem s Dead) c s.size (sound_apart s Dead w (λ t e. absurd (grind (arith, nat_tests))) (λ t e. absurd (grind (arith, nat_tests)))) (omega arith),
+    sound_name (add_node s Dead) c s.size (sound_apart s Dead w (λ t e. absurd (grind (arith, nat_tests))) (λ t e. absurd (grind (arith, nat_tests)))) (omega arith),
     (λ i. let x = dead i in grind (arith, nat_tests)),
     (λ n m. let x = unplaced n (grind (arith, nat_tests)) in let y = ap.0 in elim (cases_eq n c) [ inl e ↦ absurd (grind (arith, nat_tests)) | inr e ↦ grind (arith, nat_tests) ]),
     ap.1,
@@ -73,7 +73,7 @@ place_kept c cs l r s (w, dead, unplaced, ap) = all_flat (Like r) (Proper (placi
 )
 
 links_kept : (i j : ℕ) (l : List Atom) (rows : List Command) (r : ℕ) (s : Shape) → Proper (linking i j l) s → All_of (Like r) (afters rows (linking i j l) r s)
-links_kept i j l rows r s (w, p, q, n) = elim (cases_Bool (eqb i 0 || not (is_dead_lem (s.edge i)))) [
+links_kept i j l rows r s (w, p, q, n) = elim (cases_Bool (eqb i 0 || not (is_dead (s.edge i)))) [
   | inl t ↦ rw t tt
   | inr t ↦
       let z : i ≢ 0 = (λ e. grind (arith, nat_tests)) in
@@ -191,10 +191,10 @@ module _ (P S : Command → State → Type 0) (test : Command → Shape → Bool
     ]
   ]
 
-  pub hit_or_clear : (it : Item) (g : State) → Kept it → At it.stage it.row it.shape g → Has g.row (hits_of_lem test rows it) ⊎ S (row_at rows g.row) g
+  pub hit_or_clear : (it : Item) (g : State) → Kept it → At it.stage it.row it.shape g → Has g.row (hits_of test rows it) ⊎ S (row_at rows g.row) g
   hit_or_clear it g k a = clear_at it.stage it.row it.shape g k a
 
-  pub hit_there : (it : Item) (r : ℕ) → Kept it → Has r (hits_of_lem test rows it) → (g : State) × (g.row ≡ r) × P (row_at rows r) g × Reaches rows g it
+  pub hit_there : (it : Item) (r : ℕ) → Kept it → Has r (hits_of test rows it) → (g : State) × (g.row ≡ r) × P (row_at rows r) g × Reaches rows g it
   hit_there it r k h = there_at it.stage it.row it.shape r k h
 
 -- the item of an opening says what the opening allows

@@ -9,11 +9,11 @@ use Rattle.pieces.specs.Pieces.{mem}
 use Rattle.pieces.specs.declared.shapes.Edge.{Edge}
 use Rattle.pieces.specs.declared.shapes.Edge.TheVariants.{Dead, Cell, Segment}
 use Rattle.pieces.specs.Pieces.{put}
-use Rattle.pieces.specs.ModelShapes.{Sound, Model, Shape, Fits, SoundShape, short, long, new_at_lem, new_apart, Allocates, Two, set_edge_lem, set_name, add_node_lem}
+use Rattle.pieces.specs.ModelShapes.{Sound, Model, Shape, Fits, SoundShape, short, long, new_at_lem, new_apart, Allocates, Two, set_edge, set_name, add_node}
 use Rattle.heap.specs.declared.atoms.Atom.{Atom}
 use Rattle.heap.specs.declared.atoms.Atom.TheVariants.{Eq, Neq, Next, Lseg}
 use Rattle.heap.specs.Lists.{Holds}
-use Rattle.pieces.specs.ModelCover.{Takes, is_dead_lem, all_dead_lem, walk, if_cell_lem, covered}
+use Rattle.pieces.specs.ModelCover.{Takes, is_dead, all_dead, walk, if_cell, covered}
 use Rattle.pieces.proofs.SegmentRuns.{run_join, minus-++, lseg_run, run_lseg, run_dead, minus-in, minus-out, minus-dead, run_agree, two_cells, without-same, run_unique}
 use Rattle.pieces.proofs.ShapeSteps.{First, first, run_end, dead_node, find_val}
 use Rattle.pieces.proofs.ShapeModels.{run_first, val_apart, starts, run_live, cases_edge, apart, off, take, take_as, give, widen, narrow}

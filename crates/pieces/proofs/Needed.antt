@@ -9,7 +9,7 @@ use Rattle.heap.specs.declared.atoms.Atom.TheVariants.{Eq, Neq, Next, Lseg}
 use Rattle.sheet.specs.Routines.{Command, assign, load, store, new, free, jump, branch, cut, call, done}
 use Rattle.sheet.specs.Flow.{row_at, closes}
 use Rattle.pieces.specs.Pieces.{put, mem, State, Does, Runs, here, on, Contract, touched, closing, Opening, Allowed, Lives, Keeps}
-use Rattle.pieces.specs.ModelNeeded.{in_atom_lem, mentions, mentioned, need_by_lem, in_closing, Enough, kept_by, lean}
+use Rattle.pieces.specs.ModelNeeded.{in_atom, mentions, mentioned, need_by_lem, in_closing, Enough, kept_by, lean}
 use Rattle.pieces.specs.ModelCases.{goes_well, Forward}
 
 -- a list speaks of the names that it mentions

@@ -7,7 +7,7 @@ use Rattle.sheet.specs.Flow.{row_at}
 use Rattle.pieces.specs.Pieces.{State, Lowest}
 use Rattle.pieces.specs.ModelChoices.{SomeOf, All_of, Has, lower, lowest}
 use Rattle.pieces.specs.ModelShapes.{Shape}
-use Rattle.pieces.specs.ModelStages.{Item, Kept, Reaches, nexts_of, hits_of_lem}
+use Rattle.pieces.specs.ModelStages.{Item, Kept, Reaches, nexts_of, hits_of}
 use Rattle.pieces.specs.ModelPiles.{either, total, tree, drain}
 use Rattle.pieces.specs.ModelSearch.{Swept}
 use Rattle.pieces.proofs.Choices.{some_left, some_right, some_either, all_map, all_++}
@@ -44,32 +44,32 @@ low_++ (x ∷ a) b = let ih = low_++ a b in go (lowest a) (lowest b) (lowest (a 
 
 module _ (P S : Command → State → Type 0) (test : Command → Shape → Bool) (D : Decides P S test) (rows : List Command) (start : List Item) where
   -- an item is taken off the pile, and those behind it are put there
-  pub turn : (found : Option ℕ) (rest : List Item) (it : Item) → Kept it → Swept P S rows start found (it ∷ rest) → Swept P S rows start (either (lowest (hits_of_lem test rows it)) found) (nexts_of rows it ++ rest)
+  pub turn : (found : Option ℕ) (rest : List Item) (it : Item) → Kept it → Swept P S rows start found (it ∷ rest) → Swept P S rows start (either (lowest (hits_of test rows it)) found) (nexts_of rows it ++ rest)
   turn found rest it k W = record {
-    seen = hits_of_lem test rows it ++ W.seen;
-    lowest_is = let e = W.lowest_is in let f = low_++ (hits_of_lem test rows it) W.seen in cc;
+    seen = hits_of test rows it ++ W.seen;
+    lowest_is = let e = W.lowest_is in let f = low_++ (hits_of test rows it) W.seen in cc;
     to = λ g s. elim (W.to g s) [
-      | inl (inl h) ↦ inl (inl (some_right (λ k. k ≡ g.row) (hits_of_lem test rows it) W.seen h))
+      | inl (inl h) ↦ inl (inl (some_right (λ k. k ≡ g.row) (hits_of test rows it) W.seen h))
       | inl (inr c) ↦ inl (inr c)
       | inr (inr p) ↦ inr (some_right (Reaches rows g) (nexts_of rows it) rest p)
       | inr (inl x) ↦ elim (reaches_down rows g it k x) [
         | inr n ↦ inr (some_left (Reaches rows g) (nexts_of rows it) rest n)
-        | inl a ↦ elim (hit_or_clear P S test D rows it g k a) [ inl h ↦ inl (inl (some_left (λ k. k ≡ g.row) (hits_of_lem test rows it) W.seen h)) | inr c ↦ inl (inr c) ]
+        | inl a ↦ elim (hit_or_clear P S test D rows it g k a) [ inl h ↦ inl (inl (some_left (λ k. k ≡ g.row) (hits_of test rows it) W.seen h)) | inr c ↦ inl (inr c) ]
       ]
     ];
     back = λ g s. elim (some_either (Reaches rows g) (nexts_of rows it) rest s) [ inl n ↦ W.back g (inl (reaches_up rows g it k n)) | inr p ↦ W.back g (inr p) ];
-    from = λ r h. elim (some_either (λ k. k ≡ r) (hits_of_lem test rows it) W.seen h) [
+    from = λ r h. elim (some_either (λ k. k ≡ r) (hits_of test rows it) W.seen h) [
       | inl a ↦ let x = hit_there P S test D rows it r k a in (x.0, x.1, x.2, W.back x.0 (inl x.3))
       | inr b ↦ W.from r b
     ];
   }
 
-  pub drained : (n : ℕ) (pile : List Item) (was seen : List ℕ) → All_of Kept pile → Swept P S rows start (lowest was) pile → drain (nexts_of rows) (hits_of_lem test rows) n pile was ≡ Some seen → Swept P S rows start (lowest seen) []
+  pub drained : (n : ℕ) (pile : List Item) (was seen : List ℕ) → All_of Kept pile → Swept P S rows start (lowest was) pile → drain (nexts_of rows) (hits_of test rows) n pile was ≡ Some seen → Swept P S rows start (lowest seen) []
   drained n [] was seen k W e = let s : was ≡ seen = cc in subst (λ l. Swept P S rows start (lowest l) []) s W
   drained zero (c ∷ pile) was seen k W e = absurd (grind (arith, nat_tests))
   drained (suc n) (c ∷ pile) was seen k W e =
-      drained n (nexts_of rows c ++ pile) (hits_of_lem test rows c ++ was) seen (all_++ Kept (nexts_of rows c) pile (keeps_items rows c.stage c.row c.shape k.0) k.1)
-      (subst (λ o. Swept P S rows start o (nexts_of rows c ++ pile)) (sym (low_++ (hits_of_lem test rows c) was)) (turn (lowest was) pile c k.0 W)) e
+      drained n (nexts_of rows c ++ pile) (hits_of test rows c ++ was) seen (all_++ Kept (nexts_of rows c) pile (keeps_items rows c.stage c.row c.shape k.0) k.1)
+      (subst (λ o. Swept P S rows start o (nexts_of rows c ++ pile)) (sym (low_++ (hits_of test rows c) was)) (turn (lowest was) pile c k.0 W)) e
 
 module _ (P S : Command → State → Type 0) (rows : List Command) where
   -- nothing searched yet

@@ -5,10 +5,10 @@ use Rattle.std.proofs.lemmas.Bool.{cases_eq, cases_Bool}
 use Rattle.pieces.specs.declared.shapes.Edge.{Edge}
 use Rattle.pieces.specs.declared.shapes.Edge.TheVariants.{Dead, Cell, Segment}
 use Rattle.pieces.specs.Pieces.{put}
-use Rattle.pieces.specs.ModelShapes.{Shape, SoundShape, set_edge_lem, set_name, add_node_lem, short, long, new_at_lem, new_apart}
+use Rattle.pieces.specs.ModelShapes.{Shape, SoundShape, set_edge, set_name, add_node, short, long, new_at_lem, new_apart}
 use Rattle.heap.specs.declared.atoms.Atom.{Atom}
 use Rattle.heap.specs.declared.atoms.Atom.TheVariants.{Eq, Neq, Next, Lseg}
-use Rattle.pieces.specs.ModelCover.{is_dead_lem}
+use Rattle.pieces.specs.ModelCover.{is_dead}
 use Rattle.pieces.specs.ModelChoices.{gather}
 use Rattle.pieces.specs.ModelChoices.{flat, All_of}
 use Rattle.pieces.specs.ModelOpening.{place, add, clash}
@@ -44,44 +44,44 @@ rows_touch w (suc v) d e b p q s = let a = rows_up w v e (suc d) (omega arith) q
 
 pub spare_le : (m : ℕ) (edge : ℕ → Edge) → spare m edge ≤ m
 spare_le zero edge = omega arith
-spare_le (suc m) edge = let ih = spare_le m edge in elim (cases_Bool (eqb m 0 || not (is_dead_lem (edge m)))) [ inl t ↦ rw t (omega arith) | inr t ↦ rw t (omega arith) ]
+spare_le (suc m) edge = let ih = spare_le m edge in elim (cases_Bool (eqb m 0 || not (is_dead (edge m)))) [ inl t ↦ rw t (omega arith) | inr t ↦ rw t (omega arith) ]
 
 -- fewer dead nodes
-spare_down : (m : ℕ) (f g : ℕ → Edge) → ((k : ℕ) → k < m → is_dead_lem (f k) ≡ true → is_dead_lem (g k) ≡ true) → spare m f ≤ spare m g
+spare_down : (m : ℕ) (f g : ℕ → Edge) → ((k : ℕ) → k < m → is_dead (f k) ≡ true → is_dead (g k) ≡ true) → spare m f ≤ spare m g
 spare_down zero f g h = omega arith
 spare_down (suc m) f g h =
     let ih = spare_down m f g (λ k q. h k (omega arith)) in let hm = h m (omega arith) in
     elim (cases_Bool (eqb m 0)) [
       | inl z ↦ rw z ih
-      | inr z ↦ elim (cases_Bool (is_dead_lem (f m))) [
+      | inr z ↦ elim (cases_Bool (is_dead (f m))) [
         | inl a ↦ let b = hm a in rw (z, a, b) (omega arith)
-        | inr a ↦ elim (cases_Bool (is_dead_lem (g m))) [ inl b ↦ rw (z, a, b) (omega arith) | inr b ↦ rw (z, a, b) (omega arith) ]
+        | inr a ↦ elim (cases_Bool (is_dead (g m))) [ inl b ↦ rw (z, a, b) (omega arith) | inr b ↦ rw (z, a, b) (omega arith) ]
       ]
     ]
 
 -- one dead node more at most
-spare_one : (m : ℕ) (f g : ℕ → Edge) (i : ℕ) → ((k : ℕ) → k < m → k ≢ i → is_dead_lem (f k) ≡ true → is_dead_lem (g k) ≡ true) → spare m f ≤ suc (spare m g)
+spare_one : (m : ℕ) (f g : ℕ → Edge) (i : ℕ) → ((k : ℕ) → k < m → k ≢ i → is_dead (f k) ≡ true → is_dead (g k) ≡ true) → spare m f ≤ suc (spare m g)
 spare_one zero f g i h = omega arith
 spare_one (suc m) f g i h = elim (cases_eq m i) [
   | inl e ↦
       let a = spare_down m f g (λ k q. h k (omega arith) (omega arith)) in
-      elim (cases_Bool (eqb m 0 || not (is_dead_lem (f m)))) [
-        | inl t ↦ elim (cases_Bool (eqb m 0 || not (is_dead_lem (g m)))) [ inl u ↦ rw (t, u) (omega arith) | inr u ↦ rw (t, u) (omega arith) ]
-        | inr t ↦ elim (cases_Bool (eqb m 0 || not (is_dead_lem (g m)))) [ inl u ↦ rw (t, u) (omega arith) | inr u ↦ rw (t, u) (omega arith) ]
+      elim (cases_Bool (eqb m 0 || not (is_dead (f m)))) [
+        | inl t ↦ elim (cases_Bool (eqb m 0 || not (is_dead (g m)))) [ inl u ↦ rw (t, u) (omega arith) | inr u ↦ rw (t, u) (omega arith) ]
+        | inr t ↦ elim (cases_Bool (eqb m 0 || not (is_dead (g m)))) [ inl u ↦ rw (t, u) (omega arith) | inr u ↦ rw (t, u) (omega arith) ]
       ]
   | inr n ↦
       let ih = spare_one m f g i (λ k q. h k (omega arith)) in let hm = h m (omega arith) n in
       elim (cases_Bool (eqb m 0)) [
         | inl z ↦ rw z ih
-        | inr z ↦ elim (cases_Bool (is_dead_lem (f m))) [
+        | inr z ↦ elim (cases_Bool (is_dead (f m))) [
           | inl a ↦ let b = hm a in rw (z, a, b) (omega arith)
-          | inr a ↦ elim (cases_Bool (is_dead_lem (g m))) [ inl b ↦ rw (z, a, b) (omega arith) | inr b ↦ rw (z, a, b) (omega arith) ]
+          | inr a ↦ elim (cases_Bool (is_dead (g m))) [ inl b ↦ rw (z, a, b) (omega arith) | inr b ↦ rw (z, a, b) (omega arith) ]
         ]
       ]
 ]
 
 -- one dead node less
-spare_less : (m : ℕ) (edge : ℕ → Edge) (i : ℕ) (e : Edge) → i < m → i ≢ 0 → edge i ≡ Dead → is_dead_lem e ≡ false → suc (spare m (put edge i e)) ≤ spare m edge
+spare_less : (m : ℕ) (edge : ℕ → Edge) (i : ℕ) (e : Edge) → i < m → i ≢ 0 → edge i ≡ Dead → is_dead e ≡ false → suc (spare m (put edge i e)) ≤ spare m edge
 spare_less zero edge i e q z d n = absurd (omega arith)
 spare_less (suc m) edge i e q z d n = elim (cases_eq m i) [
   | inl s ↦
@@ -90,16 +90,16 @@ spare_less (suc m) edge i e q z d n = elim (cases_eq m i) [
       rw (b, x, c, n) (omega arith)
   | inr s ↦
       let ih = spare_less m edge i e (omega arith) z d n in let x : put edge i e m ≡ edge m = grind (arith, nat_tests) in
-      rw x (elim (cases_Bool (eqb m 0 || not (is_dead_lem (edge m)))) [ inl t ↦ rw t (omega arith) | inr t ↦ rw t (omega arith) ])
+      rw x (elim (cases_Bool (eqb m 0 || not (is_dead (edge m)))) [ inl t ↦ rw t (omega arith) | inr t ↦ rw t (omega arith) ])
 ]
 
 -- a list with one entry for each dead node
-gather_few : {A : Type 0} (m : ℕ) (edge : ℕ → Edge) (f : ℕ → List A) → ((k : ℕ) → k < m → (length (f k) ≡ 0) ⊎ ((length (f k) ≤ 1) × (k ≢ 0) × (is_dead_lem (edge k) ≡ true))) → length (gather m f) ≤ spare m edge
+gather_few : {A : Type 0} (m : ℕ) (edge : ℕ → Edge) (f : ℕ → List A) → ((k : ℕ) → k < m → (length (f k) ≡ 0) ⊎ ((length (f k) ≤ 1) × (k ≢ 0) × (is_dead (edge k) ≡ true))) → length (gather m f) ≤ spare m edge
 gather_few zero edge f h = omega arith
 gather_few (suc m) edge f h =
     let ih = gather_few m edge f (λ k q. h k (omega arith)) in let a = length-append (f m) (gather m f) in
     elim (h m (omega arith)) [
-      | inl z ↦ elim (cases_Bool (eqb m 0 || not (is_dead_lem (edge m)))) [ inl t ↦ rw t (omega arith) | inr t ↦ rw t (omega arith) ]
+      | inl z ↦ elim (cases_Bool (eqb m 0 || not (is_dead (edge m)))) [ inl t ↦ rw t (omega arith) | inr t ↦ rw t (omega arith) ]
       | inr (o, n, d) ↦ let b : eqb m 0 ≡ false = grind (arith, nat_tests) in rw (b, d) (omega arith)
     ]
 
@@ -113,13 +113,13 @@ long_spare s i t =
     let b = spare_down m (put (put s.edge i (Cell m)) m (Segment t)) s.edge (λ k q d. elim (cases_eq k i) [ inl e ↦ absurd (grind (arith, nat_tests)) | inr e ↦ let x : put (put s.edge i (Cell m)) m (Segment t) k ≡ s.edge k = grind (arith, nat_tests) in rw x at d ]) in
     elim (cases_Bool (eqb m 0)) [ inl z ↦ rw z b | inr z ↦ rw (z, a) b ]
 
-put_spare : (s : Shape) (i : ℕ) (e : Edge) → is_dead_lem e ≡ false → spare_of (set_edge_lem s i e) ≤ spare_of s
+put_spare : (s : Shape) (i : ℕ) (e : Edge) → is_dead e ≡ false → spare_of (set_edge s i e) ≤ spare_of s
 put_spare s i e n = spare_down s.size (put s.edge i e) s.edge (λ k q d. elim (cases_eq k i) [ inl f ↦ let x : put s.edge i e k ≡ e = grind (arith, nat_tests) in absurd (grind (arith, nat_tests)) | inr f ↦ let x : put s.edge i e k ≡ s.edge k = grind (arith, nat_tests) in rw x at d ])
 
-free_spare : (s : Shape) (i : ℕ) → spare_of (set_edge_lem s i Dead) ≤ suc (spare_of s)
+free_spare : (s : Shape) (i : ℕ) → spare_of (set_edge s i Dead) ≤ suc (spare_of s)
 free_spare s i = spare_one s.size (put s.edge i Dead) s.edge i (λ k q n d. let x : put s.edge i Dead k ≡ s.edge k = grind (arith, nat_tests) in rw x at d)
 
-apart_spare : (s : Shape) (e : Edge) → is_dead_lem e ≡ false → spare_of (add_node_lem s e) ≤ spare_of s
+apart_spare : (s : Shape) (e : Edge) → is_dead e ≡ false → spare_of (add_node s e) ≤ spare_of s
 apart_spare s e n =
     let m = s.size in let a : put s.edge m e m ≡ e = grind (arith, nat_tests) in
     let b = spare_down m (put s.edge m e) s.edge (λ k q d. let x : put s.edge m e k ≡ s.edge k = grind (arith, nat_tests) in rw x at d) in
@@ -145,18 +145,18 @@ module _ (W : ℕ → ℕ) (r : ℕ) (s : Shape) where
       go (Segment t) = (one (short s i t) 2 (put_spare s i (Cell t) refl) (omega arith), (one (long s i t) 2 (long_spare s i t) (omega arith), tt))
 
   abbrev at_dead : ℕ → ℕ → List Case
-  at_dead x j = cond (eqb j 0 || not (is_dead_lem (s.edge j))) [] (at (suc r) (new_at_lem s x j))
+  at_dead x j = cond (eqb j 0 || not (is_dead (s.edge j))) [] (at (suc r) (new_at_lem s x j))
 
   few_new : (x : ℕ) → length (gather s.size (at_dead x)) ≤ spare_of s
-  few_new x = gather_few s.size s.edge (at_dead x) (λ j q. elim (cases_Bool (eqb j 0 || not (is_dead_lem (s.edge j)))) [
+  few_new x = gather_few s.size s.edge (at_dead x) (λ j q. elim (cases_Bool (eqb j 0 || not (is_dead (s.edge j)))) [
     | inl t ↦ inl (rw t refl)
-    | inr t ↦ inr (rw t (omega arith), (λ z. grind (arith, nat_tests)), elim (cases_Bool (is_dead_lem (s.edge j))) [ inl d ↦ d | inr d ↦ absurd (grind (arith, nat_tests)) ])
+    | inr t ↦ inr (rw t (omega arith), (λ z. grind (arith, nat_tests)), elim (cases_Bool (is_dead (s.edge j))) [ inl d ↦ d | inr d ↦ absurd (grind (arith, nat_tests)) ])
   ])
 
   new_room : (x b : ℕ) → b ≤ suc (spare_of s) → W (suc r) < W r → All_of (FitsRoom b) (nexts (new x) r s)
   new_room x b q p = (
     (let a = apart_spare s (Cell 0) refl in rows_touch (W (suc r)) (W r) (spare_of s) (spare_of (new_apart s x)) b p (omega arith) (omega arith)),
-    all_gather (FitsRoom b) s.size (at_dead x) (λ j l. elim (cases_Bool (eqb j 0 || not (is_dead_lem (s.edge j)))) [
+    all_gather (FitsRoom b) s.size (at_dead x) (λ j l. elim (cases_Bool (eqb j 0 || not (is_dead (s.edge j)))) [
       | inl t ↦ rw t tt
       | inr t ↦ rw t ((let a = put_spare s j (Cell 0) refl in rows_touch (W (suc r)) (W r) (spare_of s) (spare_of (new_at_lem s x j)) b p (omega arith) (omega arith)), tt)
     ]),
@@ -165,9 +165,9 @@ module _ (W : ℕ → ℕ) (r : ℕ) (s : Shape) where
   cases_room : (row : Command) → WeighsAt W r row → All_of (FitsRoom (length (nexts row r s))) (nexts row r s)
   cases_room (assign x e) p = same_room (suc r) (set_name s x (s.name e)) p (omega arith)
   cases_room (load x y) p = by_touch (s.name y) (λ u. set_name u x (aim (u.edge (u.name y)))) (λ u. omega arith) p
-  cases_room (store x e) p = by_touch (s.name x) (λ u. set_edge_lem u (u.name x) (Cell (u.name e))) (λ u. let a = put_spare u (u.name x) (Cell (u.name e)) refl in omega arith) p
+  cases_room (store x e) p = by_touch (s.name x) (λ u. set_edge u (u.name x) (Cell (u.name e))) (λ u. let a = put_spare u (u.name x) (Cell (u.name e)) refl in omega arith) p
   cases_room (new x) p = let f = few_new x in new_room x (length (nexts (new x) r s)) (omega arith) p
-  cases_room (free x) p = by_touch (s.name x) (λ u. set_edge_lem u (u.name x) Dead) (λ u. free_spare u (u.name x)) p
+  cases_room (free x) p = by_touch (s.name x) (λ u. set_edge u (u.name x) Dead) (λ u. free_spare u (u.name x)) p
   cases_room (jump t) p = same_room t s p (omega arith)
   cases_room (branch e f t) p = elim (cases_Bool (eqb (s.name e) (s.name f))) [ inl b ↦ rw b (same_room t s p.0 (omega arith)) | inr b ↦ rw b (same_room (suc r) s p.1 (omega arith)) ]
   cases_room (cut l) p = tt
@@ -196,7 +196,7 @@ module _ (rows : List Command) (W : ℕ → ℕ) (weighs : (r : ℕ) → WeighsA
   add_few (Neq x y) s = inl (elim (cases_Bool (eqb (s.name x) (s.name y))) [ inl t ↦ rw t (omega arith, tt) | inr t ↦ rw t (omega arith, (omega arith, tt)) ])
   add_few (Next x y) s = inl (elim (cases_Bool (eqb (s.name x) 0)) [
     | inl t ↦ rw t (omega arith, tt)
-    | inr t ↦ elim (cases_Bool (is_dead_lem (s.edge (s.name x)))) [ inl d ↦ rw (t, d) (omega arith, (put_spare s (s.name x) (Cell (s.name y)) refl, tt)) | inr d ↦ rw (t, d) (omega arith, tt) ]
+    | inr t ↦ elim (cases_Bool (is_dead (s.edge (s.name x)))) [ inl d ↦ rw (t, d) (omega arith, (put_spare s (s.name x) (Cell (s.name y)) refl, tt)) | inr d ↦ rw (t, d) (omega arith, tt) ]
   ])
   add_few (Lseg x y) s = inr (x, y, refl)
 
@@ -220,7 +220,7 @@ module _ (rows : List Command) (W : ℕ → ℕ) (weighs : (r : ℕ) → WeighsA
 
   -- a segment laid
   link_room : (i j : ℕ) (l : List Atom) (s : Shape) → i < s.size → All_of (In (length (afters rows (linking i j l) r s)) (room W (linking i j l) r s)) (afters rows (linking i j l) r s)
-  link_room i j l s p = elim (cases_Bool (eqb i 0 || not (is_dead_lem (s.edge i)))) [
+  link_room i j l s p = elim (cases_Bool (eqb i 0 || not (is_dead (s.edge i)))) [
     | inl t ↦ rw t tt
     | inr t ↦
         let z : i ≢ 0 = (λ e. grind (arith, nat_tests)) in
@@ -229,23 +229,23 @@ module _ (rows : List Command) (W : ℕ → ℕ) (weighs : (r : ℕ) → WeighsA
         rw t (
           child (suc (length (gather s.size (laid s i j l r)))) j e z (omega arith),
           all_gather (In (suc (length (gather s.size (laid s i j l r)))) (room W (linking i j l) r s)) s.size (laid s i j l r)
-              (λ o q. elim (cases_Bool (eqb o i || (eqb o j || (eqb o 0 || not (is_dead_lem (s.edge o)))))) [ inl u ↦ rw u tt | inr u ↦ rw u (child (suc (length (gather s.size (laid s i j l r)))) o e z (omega arith), tt) ]),
+              (λ o q. elim (cases_Bool (eqb o i || (eqb o j || (eqb o 0 || not (is_dead (s.edge o)))))) [ inl u ↦ rw u tt | inr u ↦ rw u (child (suc (length (gather s.size (laid s i j l r)))) o e z (omega arith), tt) ]),
         )
   ]
     where
       few : s.edge i ≡ Dead → i ≢ 0 → suc (length (gather s.size (laid s i j l r))) ≤ spare_of s
       few e z =
-          let a = gather_few s.size (put s.edge i (Segment j)) (laid s i j l r) (λ o q. elim (cases_Bool (eqb o i || (eqb o j || (eqb o 0 || not (is_dead_lem (s.edge o)))))) [
+          let a = gather_few s.size (put s.edge i (Segment j)) (laid s i j l r) (λ o q. elim (cases_Bool (eqb o i || (eqb o j || (eqb o 0 || not (is_dead (s.edge o)))))) [
             | inl u ↦ inl (rw u refl)
-            | inr u ↦ inr (rw u (omega arith), (λ y. grind (arith, nat_tests)), (let x : put s.edge i (Segment j) o ≡ s.edge o = grind (arith, nat_tests) in rw x (elim (cases_Bool (is_dead_lem (s.edge o))) [ inl d ↦ d | inr d ↦ absurd (grind (arith, nat_tests)) ])))
+            | inr u ↦ inr (rw u (omega arith), (λ y. grind (arith, nat_tests)), (let x : put s.edge i (Segment j) o ≡ s.edge o = grind (arith, nat_tests) in rw x (elim (cases_Bool (is_dead (s.edge o))) [ inl d ↦ d | inr d ↦ absurd (grind (arith, nat_tests)) ])))
           ]) in
           let b = spare_less s.size s.edge i (Segment j) p z e refl in omega arith
 
-      child : (b o : ℕ) → s.edge i ≡ Dead → i ≢ 0 → b ≤ spare_of s → b + (tri (spare_of (set_edge_lem s i (Segment o))) + for_rows (W r) (spare_of (set_edge_lem s i (Segment o)))) ≤ suc (tri (spare_of s) + for_rows (W r) (spare_of s))
+      child : (b o : ℕ) → s.edge i ≡ Dead → i ≢ 0 → b ≤ spare_of s → b + (tri (spare_of (set_edge s i (Segment o))) + for_rows (W r) (spare_of (set_edge s i (Segment o)))) ≤ suc (tri (spare_of s) + for_rows (W r) (spare_of s))
       child b o e z q =
           let c = spare_less s.size s.edge i (Segment o) p z e refl in
-          let d = rows_up (W r) (W r) (spare_of (set_edge_lem s i (Segment o))) (spare_of s) (omega arith) (omega arith) in
-          let t = tri_step (spare_of (set_edge_lem s i (Segment o))) (spare_of s) c in omega arith
+          let d = rows_up (W r) (W r) (spare_of (set_edge s i (Segment o))) (spare_of s) (omega arith) (omega arith) in
+          let t = tri_step (spare_of (set_edge s i (Segment o))) (spare_of s) c in omega arith
         where
           tri_step : (a b : ℕ) → suc a ≤ b → b + tri a ≤ suc (tri b)
           tri_step a zero q = absurd (omega arith)
@@ -333,12 +333,12 @@ module _ (rows : List Command) (fwd : Forward rows) where
   add_falls r (Neq x y ∷ l) s = adds_fall r (Neq x y) l s (add (Neq x y) s) (elim (cases_Bool (eqb (s.name x) (s.name y))) [ inl t ↦ rw t tt | inr t ↦ rw t (omega arith, tt) ])
   add_falls r (Next x y ∷ l) s = adds_fall r (Next x y) l s (add (Next x y) s) (elim (cases_Bool (eqb (s.name x) 0)) [
     | inl t ↦ rw t tt
-    | inr t ↦ elim (cases_Bool (is_dead_lem (s.edge (s.name x)))) [ inl d ↦ rw (t, d) (put_spare s (s.name x) (Cell (s.name y)) refl, tt) | inr d ↦ rw (t, d) tt ]
+    | inr t ↦ elim (cases_Bool (is_dead (s.edge (s.name x)))) [ inl d ↦ rw (t, d) (put_spare s (s.name x) (Cell (s.name y)) refl, tt) | inr d ↦ rw (t, d) tt ]
   ])
   add_falls r (Lseg x y ∷ l) s = elim (cases_Bool (eqb (s.name x) (s.name y))) [ inl t ↦ rw t (omega arith, tt) | inr t ↦ rw t (omega arith, tt) ]
 
   link_falls : (r i j : ℕ) (l : List Atom) (s : Shape) → i < s.size → All_of (Nearer (deep rows (linking i j l) r s)) (afters rows (linking i j l) r s)
-  link_falls r i j l s p = elim (cases_Bool (eqb i 0 || not (is_dead_lem (s.edge i)))) [
+  link_falls r i j l s p = elim (cases_Bool (eqb i 0 || not (is_dead (s.edge i)))) [
     | inl t ↦ rw t tt
     | inr t ↦
         let z : i ≢ 0 = (λ e. grind (arith, nat_tests)) in
@@ -347,7 +347,7 @@ module _ (rows : List Command) (fwd : Forward rows) where
         rw t (
           omega arith,
           all_gather (Nearer (deep rows (linking i j l) r s)) s.size (laid s i j l r)
-              (λ o q. elim (cases_Bool (eqb o i || (eqb o j || (eqb o 0 || not (is_dead_lem (s.edge o)))))) [ inl u ↦ rw u tt | inr u ↦ let b = spare_less s.size s.edge i (Segment o) p z e refl in rw u (omega arith, tt) ]),
+              (λ o q. elim (cases_Bool (eqb o i || (eqb o j || (eqb o 0 || not (is_dead (s.edge o)))))) [ inl u ↦ rw u tt | inr u ↦ let b = spare_less s.size s.edge i (Segment o) p z e refl in rw u (omega arith, tt) ]),
         )
   ]
 

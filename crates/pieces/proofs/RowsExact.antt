@@ -7,8 +7,8 @@ use Rattle.heap.specs.Heaps.{Heap, without}
 use Rattle.pieces.specs.declared.shapes.Edge.{Edge}
 use Rattle.pieces.specs.declared.shapes.Edge.TheVariants.{Dead, Cell, Segment}
 use Rattle.pieces.specs.Pieces.{put}
-use Rattle.pieces.specs.ModelShapes.{Sound, Model, Shape, Fits, SoundShape, short, long, new_at_lem, new_apart, Allocates, set_edge_lem, set_name, add_node_lem}
-use Rattle.pieces.specs.ModelCover.{is_dead_lem}
+use Rattle.pieces.specs.ModelShapes.{Sound, Model, Shape, Fits, SoundShape, short, long, new_at_lem, new_apart, Allocates, set_edge, set_name, add_node}
+use Rattle.pieces.specs.ModelCover.{is_dead}
 use Rattle.pieces.specs.ModelChoices.{SomeOf, gather}
 use Rattle.pieces.specs.ModelChoices.{flat, All_of}
 use Rattle.sheet.specs.Routines.{Command, assign, load, store, new, free, jump, branch, cut, call, done}
@@ -36,7 +36,7 @@ sound_name s x k w q = record {
   names_in = λ n. let a = w.names_in n in grind (arith, nat_tests);
 }
 
-pub sound_cell : (s : Shape) (i j : ℕ) → SoundShape s → i ≢ 0 → j < s.size → SoundShape (set_edge_lem s i (Cell j))
+pub sound_cell : (s : Shape) (i j : ℕ) → SoundShape s → i ≢ 0 → j < s.size → SoundShape (set_edge s i (Cell j))
 sound_cell s i j w z q = record {
   some_node = w.some_node;
   nil_dead = let a = w.nil_dead in grind (arith, nat_tests);
@@ -45,7 +45,7 @@ sound_cell s i j w z q = record {
   names_in = w.names_in;
 }
 
-pub sound_apart : (s : Shape) (e : Edge) → SoundShape s → ((t : ℕ) → e ≡ Cell t → t < suc s.size) → ((t : ℕ) → e ≡ Segment t → t < s.size) → SoundShape (add_node_lem s e)
+pub sound_apart : (s : Shape) (e : Edge) → SoundShape s → ((t : ℕ) → e ≡ Cell t → t < suc s.size) → ((t : ℕ) → e ≡ Segment t → t < s.size) → SoundShape (add_node s e)
 sound_apart s e w c g = record {
   some_node = omega arith;
   nil_dead = let a = w.nil_dead in let b = w.some_node in grind (arith, nat_tests);
@@ -166,27 +166,27 @@ load_from_case x y s r g w S = touch_from s w (s.name y) (w.names_in y) r (λ u.
     ((record { row = r; env = c.0; heap = g.heap }, refl, (c.1, c.3, same_state g (suc r) (put c.0 x c.1) g.heap k c.4 refl)), c.2)) S
 
 store_to_case : (x e : ℕ) → To (store x e)
-store_to_case x e s st g w F (l, d) = rw d (touch_to s w (s.name x) (w.names_in x) st.row (λ u. set_edge_lem u (u.name x) (Cell (u.name e))) st.env st.heap F
+store_to_case x e s st g w F (l, d) = rw d (touch_to s w (s.name x) (w.names_in x) st.row (λ u. set_edge u (u.name x) (Cell (u.name e))) st.env st.heap F
     (record { row = suc st.row; env = st.env; heap = put st.heap (st.env x) (Some (st.env e)) }) (live_at s st.env st.heap x F l) refl
     (λ u C G. store_to u st.env st.heap e x C.to C.sound (named_cell s u x C) G))
 
 store_from_case : (x e : ℕ) → From (store x e)
-store_from_case x e s r g w S = touch_from s w (s.name x) (w.names_in x) r (λ u. set_edge_lem u (u.name x) (Cell (u.name e))) (store x e) g
+store_from_case x e s r g w S = touch_from s w (s.name x) (w.names_in x) r (λ u. set_edge u (u.name x) (Cell (u.name e))) (store x e) g
     (λ u C k G. let c = store_from u g.env g.heap e x C.to C.sound (named_cell s u x C) G in
     ((record { row = r; env = g.env; heap = c.0 }, refl, (cell_live u g.env c.0 x C.to C.sound (named_cell s u x C) c.1, same_state g (suc r) g.env (put c.0 (g.env x) (Some (g.env e))) k refl c.2)), c.1)) S
 
 free_to_case : (x : ℕ) → To (free x)
-free_to_case x s st g w F (l, d) = rw d (touch_to s w (s.name x) (w.names_in x) st.row (λ u. set_edge_lem u (u.name x) Dead) st.env st.heap F
+free_to_case x s st g w F (l, d) = rw d (touch_to s w (s.name x) (w.names_in x) st.row (λ u. set_edge u (u.name x) Dead) st.env st.heap F
     (record { row = suc st.row; env = st.env; heap = without st.heap (st.env x) }) (live_at s st.env st.heap x F l) refl
     (λ u C G. free_to u st.env st.heap x C.to C.sound (named_cell s u x C) G))
 
 free_from_case : (x : ℕ) → From (free x)
-free_from_case x s r g w S = touch_from s w (s.name x) (w.names_in x) r (λ u. set_edge_lem u (u.name x) Dead) (free x) g
+free_from_case x s r g w S = touch_from s w (s.name x) (w.names_in x) r (λ u. set_edge u (u.name x) Dead) (free x) g
     (λ u C k G. let c = free_from u g.env g.heap x C.to C.sound (named_cell s u x C) G in
     ((record { row = r; env = g.env; heap = c.0 }, refl, (cell_live u g.env c.0 x C.to C.sound (named_cell s u x C) c.1, same_state g (suc r) g.env (without c.0 (g.env x)) k refl (sym c.2))), c.1)) S
 
 abbrev at_dead : Shape → ℕ → ℕ → ℕ → List Case
-at_dead s x r j = cond (eqb j 0 || not (is_dead_lem (s.edge j))) [] (at (suc r) (new_at_lem s x j))
+at_dead s x r j = cond (eqb j 0 || not (is_dead (s.edge j))) [] (at (suc r) (new_at_lem s x j))
 
 new_to : (x : ℕ) → To (new x)
 new_to x s st g w F (a, nz, vacant, d) =
@@ -195,7 +195,7 @@ new_to x s st g w F (a, nz, vacant, d) =
     elim (alloc_to s st.env st.heap x g.env g.heap w F A) [
       | inr G ↦ inl (k, G)
       | inl (j, q, n, e, G) ↦ inr (some_gather (λ c. Of c g) s.size (at_dead s x st.row) j q
-          (let t : (eqb j 0 || not (is_dead_lem (s.edge j))) ≡ false = (let z : eqb j 0 ≡ false = grind (arith, nat_tests) in rw (z, e)) in rw t (inl (k, G))))
+          (let t : (eqb j 0 || not (is_dead (s.edge j))) ≡ false = (let z : eqb j 0 ≡ false = grind (arith, nat_tests) in rw (z, e)) in rw t (inl (k, G))))
     ]
 
 allocated : (x r : ℕ) (s : Shape) (g : State) → g.row ≡ suc r → (env : ℕ → ℕ) × (h : Heap) × Fits s env h × Allocates x env h g.env g.heap → (d : Before (new x) r g) × Fits s d.0.env d.0.heap
@@ -206,7 +206,7 @@ new_from : (x : ℕ) → From (new x)
 new_from x s r g w (inl (k, F)) = allocated x r s g k (alloc_from_apart s x g.env g.heap w F)
 new_from x s r g w (inr S) =
     let y = gather_some (λ c. Of c g) s.size (at_dead s x r) S in
-    elim (cases_Bool (eqb y.0 0 || not (is_dead_lem (s.edge y.0)))) [
+    elim (cases_Bool (eqb y.0 0 || not (is_dead (s.edge y.0)))) [
       | inl t ↦ absurd (rw t at y.2)
       | inr t ↦ elim (rw t at y.2) [
         | inr n ↦ absurd n
@@ -275,15 +275,15 @@ off_nil_at s u x C = let e = named_cell s u x C in off_nil u (u.name x) C.sound 
 pub step_sound : (row : Command) → Keeps row
 step_sound (assign x e) s r w = (sound_name s x (s.name e) w (w.names_in e), tt)
 step_sound (load x y) s r w = touch_sound s w (s.name y) (w.names_in y) r (λ u. set_name u x (aim (u.edge (u.name y)))) (λ u C. sound_name u x (aim (u.edge (u.name y))) C.sound (target_in s u y C))
-step_sound (store x e) s r w = touch_sound s w (s.name x) (w.names_in x) r (λ u. set_edge_lem u (u.name x) (Cell (u.name e))) (λ u C. sound_cell u (u.name x) (u.name e) C.sound (off_nil_at s u x C) (C.sound.names_in e))
+step_sound (store x e) s r w = touch_sound s w (s.name x) (w.names_in x) r (λ u. set_edge u (u.name x) (Cell (u.name e))) (λ u C. sound_cell u (u.name x) (u.name e) C.sound (off_nil_at s u x C) (C.sound.names_in e))
 step_sound (new x) s r w = (
-  sound_name (add_node_lem s (Cell 0)) x s.size (sound_apart s (Cell 0) w (λ t e. grind (arith, nat_tests)) (λ t e. absurd (grind (arith, nat_tests)))) (omega arith),
-  all_gather (λ c. SoundShape c.shape) s.size (at_dead s x r) (λ j q. elim (cases_Bool (eqb j 0 || not (is_dead_lem (s.edge j)))) [
+  sound_name (add_node s (Cell 0)) x s.size (sound_apart s (Cell 0) w (λ t e. grind (arith, nat_tests)) (λ t e. absurd (grind (arith, nat_tests)))) (omega arith),
+  all_gather (λ c. SoundShape c.shape) s.size (at_dead s x r) (λ j q. elim (cases_Bool (eqb j 0 || not (is_dead (s.edge j)))) [
     | inl t ↦ rw t tt
-    | inr t ↦ rw t (sound_name (set_edge_lem s j (Cell 0)) x j (sound_cell s j 0 w (λ z. grind (arith, nat_tests)) w.some_node) q, tt)
+    | inr t ↦ rw t (sound_name (set_edge s j (Cell 0)) x j (sound_cell s j 0 w (λ z. grind (arith, nat_tests)) w.some_node) q, tt)
   ]),
 )
-step_sound (free x) s r w = touch_sound s w (s.name x) (w.names_in x) r (λ u. set_edge_lem u (u.name x) Dead) (λ u C. sound_dead u.size u.name u.edge (u.name x) C.sound)
+step_sound (free x) s r w = touch_sound s w (s.name x) (w.names_in x) r (λ u. set_edge u (u.name x) Dead) (λ u C. sound_dead u.size u.name u.edge (u.name x) C.sound)
 step_sound (jump t) s r w = (w, tt)
 step_sound (branch e f t) s r w = elim (cases_Bool (eqb (s.name e) (s.name f))) [ inl b ↦ rw b (w, tt) | inr b ↦ rw b (w, tt) ]
 step_sound (cut l) s r w = tt

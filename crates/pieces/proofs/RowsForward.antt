@@ -8,8 +8,8 @@ use Rattle.sheet.specs.Flow.{row_at, closes}
 use Rattle.pieces.specs.declared.shapes.Edge.{Edge}
 use Rattle.pieces.specs.declared.shapes.Edge.TheVariants.{Dead, Cell, Segment}
 use Rattle.pieces.specs.ModelChoices.{All_of, flat, gather}
-use Rattle.pieces.specs.ModelShapes.{Shape, set_edge_lem, set_name, new_at_lem}
-use Rattle.pieces.specs.ModelCover.{is_dead_lem}
+use Rattle.pieces.specs.ModelShapes.{Shape, set_edge, set_name, new_at_lem}
+use Rattle.pieces.specs.ModelCover.{is_dead}
 use Rattle.pieces.specs.ModelCases.{Case, nexts, cells, aim, at, goes_well}
 use Rattle.pieces.proofs.Choices.{all_any, all_flat, all_gather}
 
@@ -42,13 +42,13 @@ module _ (rows : List Command) where
   pub goes_on : (row : Command) (r : ℕ) (s : Shape) → goes_well rows r row ≡ true → All_of (Onward r) (nexts row r s)
   goes_on (assign x e) r s t = (inl (omega arith), tt)
   goes_on (load x y) r s t = by_touch r (λ u. set_name u x (aim (u.edge (u.name y)))) (cells s (s.name y))
-  goes_on (store x e) r s t = by_touch r (λ u. set_edge_lem u (u.name x) (Cell (u.name e))) (cells s (s.name x))
+  goes_on (store x e) r s t = by_touch r (λ u. set_edge u (u.name x) (Cell (u.name e))) (cells s (s.name x))
   goes_on (new x) r s t = (
     inl (omega arith),
-    all_gather (Onward r) s.size (λ j. cond (eqb j 0 || not (is_dead_lem (s.edge j))) [] (at (suc r) (new_at_lem s x j)))
-        (λ j q. elim (cases_Bool (eqb j 0 || not (is_dead_lem (s.edge j)))) [ inl b ↦ rw b tt | inr b ↦ rw b (inl (omega arith), tt) ]),
+    all_gather (Onward r) s.size (λ j. cond (eqb j 0 || not (is_dead (s.edge j))) [] (at (suc r) (new_at_lem s x j)))
+        (λ j q. elim (cases_Bool (eqb j 0 || not (is_dead (s.edge j)))) [ inl b ↦ rw b tt | inr b ↦ rw b (inl (omega arith), tt) ]),
   )
-  goes_on (free x) r s t = by_touch r (λ u. set_edge_lem u (u.name x) Dead) (cells s (s.name x))
+  goes_on (free x) r s t = by_touch r (λ u. set_edge u (u.name x) Dead) (cells s (s.name x))
   goes_on (jump k) r s t = (by_jump r k t, tt)
   goes_on (branch e f k) r s t = elim (cases_Bool (eqb (s.name e) (s.name f))) [ inl b ↦ rw b (by_jump r k t, tt) | inr b ↦ rw b (inl (omega arith), tt) ]
   goes_on (cut l) r s t = tt

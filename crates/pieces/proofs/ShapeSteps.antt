@@ -8,7 +8,7 @@ use Rattle.pieces.specs.Pieces.{mem}
 use Rattle.pieces.specs.declared.shapes.Edge.{Edge}
 use Rattle.pieces.specs.declared.shapes.Edge.TheVariants.{Dead, Cell, Segment}
 use Rattle.pieces.specs.Pieces.{put}
-use Rattle.pieces.specs.ModelShapes.{Sound, Model, Shape, Fits, SoundShape, short, long, new_at_lem, new_apart, Allocates, set_edge_lem, set_name, add_node_lem}
+use Rattle.pieces.specs.ModelShapes.{Sound, Model, Shape, Fits, SoundShape, short, long, new_at_lem, new_apart, Allocates, set_edge, set_name, add_node}
 use Rattle.pieces.proofs.SegmentRuns.{run_dead, minus-in, minus-out, minus-dead, run_agree, without-same, run_unique}
 use Rattle.pieces.proofs.ShapeModels.{run_first, val_apart, starts, run_live, cases_edge, apart, off, take, take_as, give, widen, narrow}
 
@@ -197,7 +197,7 @@ module _ (s : Shape) (env : ℕ → ℕ) (h : Heap) (w : SoundShape s) (i t : �
 
 -- (5) vacant: the node of the name has the edge Cell u
 pub free_to : (s : Shape) (env : ℕ → ℕ) (h : Heap) (x u : ℕ) → SoundShape s → s.edge (s.name x) ≡ Cell u → Fits s env h
-    → Fits (set_edge_lem s (s.name x) Dead) env (without h (env x))
+    → Fits (set_edge s (s.name x) Dead) env (without h (env x))
 free_to s env h x u w e F =
     let M = F.model in
     let i = s.name x in
@@ -211,7 +211,7 @@ free_to s env h x u w e F =
     }
 
 pub free_from : (s : Shape) (env : ℕ → ℕ) (g : Heap) (x u : ℕ) → SoundShape s → s.edge (s.name x) ≡ Cell u
-    → Fits (set_edge_lem s (s.name x) Dead) env g → (h : Heap) × Fits s env h × (without h (env x) ≡ g)
+    → Fits (set_edge s (s.name x) Dead) env g → (h : Heap) × Fits s env h × (without h (env x) ≡ g)
 free_from s env g x u w e F =
     let M = F.model in
     let i = s.name x in
@@ -386,7 +386,7 @@ relink m edge val h M i t u a v p e va vu edge' here there =
 
 -- y.next = x
 pub store_to : (s : Shape) (env : ℕ → ℕ) (h : Heap) (x y t : ℕ) → SoundShape s → s.edge (s.name y) ≡ Cell t → Fits s env h
-    → Fits (set_edge_lem s (s.name y) (Cell (s.name x))) env (put h (env y) (Some (env x)))
+    → Fits (set_edge s (s.name y) (Cell (s.name x))) env (put h (env y) (Some (env x)))
 store_to s env h x y t w e F = record {
   val = F.val;
   named = F.named;
@@ -394,7 +394,7 @@ store_to s env h x y t w e F = record {
       (put s.edge (s.name y) (Cell (s.name x))) (grind (arith, nat_tests)) (λ k n. grind (arith, nat_tests));
 }
 
-pub store_from : (s : Shape) (env : ℕ → ℕ) (g : Heap) (x y t : ℕ) → SoundShape s → s.edge (s.name y) ≡ Cell t → Fits (set_edge_lem s (s.name y) (Cell (s.name x))) env g
+pub store_from : (s : Shape) (env : ℕ → ℕ) (g : Heap) (x y t : ℕ) → SoundShape s → s.edge (s.name y) ≡ Cell t → Fits (set_edge s (s.name y) (Cell (s.name x))) env g
     → (h : Heap) × Fits s env h × (g ≡ put h (env y) (Some (env x)))
 store_from s env g x y t w e F =
     let i = s.name y in let c = F.model.cell i (s.name x) (w.names_in y) (grind (arith, nat_tests)) in let ny = F.named y in let nx = F.named x in (

@@ -9,8 +9,8 @@ use Rattle.sheet.specs.Flow.{row_at, closes}
 use Rattle.pieces.specs.declared.shapes.Edge.{Edge}
 use Rattle.pieces.specs.declared.shapes.Edge.TheVariants.{Dead, Cell, Segment}
 use Rattle.pieces.specs.ModelChoices.{All_of, flat, gather}
-use Rattle.pieces.specs.ModelShapes.{Shape, SoundShape, set_edge_lem, set_name, add_node_lem, short, long, new_at_lem, new_apart}
-use Rattle.pieces.specs.ModelCover.{is_dead_lem}
+use Rattle.pieces.specs.ModelShapes.{Shape, SoundShape, set_edge, set_name, add_node, short, long, new_at_lem, new_apart}
+use Rattle.pieces.specs.ModelCover.{is_dead}
 use Rattle.pieces.specs.ModelOpening.{place, add, clash}
 use Rattle.pieces.specs.ModelCases.{Case, onward, nexts, cells, cells_by, aim, at, Forward}
 use Rattle.pieces.specs.ModelStages.{Stage, placing, adding, linking, running, Item, item, placed, laid, afters, Proper, Kept, nexts_of}
@@ -39,13 +39,13 @@ module _ (W : ℕ → ℕ) (r : ℕ) (s : Shape) where
   narrow_rows : (w : Command) → WeighsAt W r w → s.size + W r ≤ 17 → All_of FitsCase (nexts w r s)
   narrow_rows (assign x e) l n = (omega arith, tt)
   narrow_rows (load x y) l n = by_touch (s.name y) (λ u. set_name u x (aim (u.edge (u.name y)))) (λ u. refl) l n
-  narrow_rows (store x e) l n = by_touch (s.name x) (λ u. set_edge_lem u (u.name x) (Cell (u.name e))) (λ u. refl) l n
+  narrow_rows (store x e) l n = by_touch (s.name x) (λ u. set_edge u (u.name x) (Cell (u.name e))) (λ u. refl) l n
   narrow_rows (new x) l n = (
     omega arith,
-    all_gather FitsCase s.size (λ j. cond (eqb j 0 || not (is_dead_lem (s.edge j))) [] (at (suc r) (new_at_lem s x j)))
-        (λ j q. elim (cases_Bool (eqb j 0 || not (is_dead_lem (s.edge j)))) [ inl t ↦ rw t tt | inr t ↦ rw t (omega arith, tt) ]),
+    all_gather FitsCase s.size (λ j. cond (eqb j 0 || not (is_dead (s.edge j))) [] (at (suc r) (new_at_lem s x j)))
+        (λ j q. elim (cases_Bool (eqb j 0 || not (is_dead (s.edge j)))) [ inl t ↦ rw t tt | inr t ↦ rw t (omega arith, tt) ]),
   )
-  narrow_rows (free x) l n = by_touch (s.name x) (λ u. set_edge_lem u (u.name x) Dead) (λ u. refl) l n
+  narrow_rows (free x) l n = by_touch (s.name x) (λ u. set_edge u (u.name x) Dead) (λ u. refl) l n
   narrow_rows (jump t) l n = (omega arith, tt)
   narrow_rows (branch e f t) l n = elim (cases_Bool (eqb (s.name e) (s.name f))) [ inl b ↦ rw b (let a = l.0 in omega arith, tt) | inr b ↦ rw b (let a = l.1 in omega arith, tt) ]
   narrow_rows (cut m) l n = tt
@@ -71,12 +71,12 @@ module _ (rows : List Command) (W : ℕ → ℕ) (weighs : (r : ℕ) → WeighsA
   stays_slim (adding (Neq x y ∷ l)) r s n = adds_slim r l s (add (Neq x y) s) n (elim (cases_Bool (eqb (s.name x) (s.name y))) [ inl t ↦ rw t tt | inr t ↦ rw t (refl, tt) ])
   stays_slim (adding (Next x y ∷ l)) r s n = adds_slim r l s (add (Next x y) s) n (elim (cases_Bool (eqb (s.name x) 0)) [
     | inl t ↦ rw t tt
-    | inr t ↦ elim (cases_Bool (is_dead_lem (s.edge (s.name x)))) [ inl d ↦ rw (t, d) (refl, tt) | inr d ↦ rw (t, d) tt ]
+    | inr t ↦ elim (cases_Bool (is_dead (s.edge (s.name x)))) [ inl d ↦ rw (t, d) (refl, tt) | inr d ↦ rw (t, d) tt ]
   ])
   stays_slim (adding (Lseg x y ∷ l)) r s n = elim (cases_Bool (eqb (s.name x) (s.name y))) [ inl t ↦ rw t (n, tt) | inr t ↦ rw t (n, tt) ]
-  stays_slim (linking i j l) r s n = elim (cases_Bool (eqb i 0 || not (is_dead_lem (s.edge i)))) [
+  stays_slim (linking i j l) r s n = elim (cases_Bool (eqb i 0 || not (is_dead (s.edge i)))) [
     | inl t ↦ rw t tt
-    | inr t ↦ rw t (n, all_gather Slim s.size (laid s i j l r) (λ o q. elim (cases_Bool (eqb o i || (eqb o j || (eqb o 0 || not (is_dead_lem (s.edge o)))))) [ inl u ↦ rw u tt | inr u ↦ rw u (n, tt) ]))
+    | inr t ↦ rw t (n, all_gather Slim s.size (laid s i j l r) (λ o q. elim (cases_Bool (eqb o i || (eqb o j || (eqb o 0 || not (is_dead (s.edge o)))))) [ inl u ↦ rw u tt | inr u ↦ rw u (n, tt) ]))
   ]
   stays_slim running r s n = all_flat Slim (FitsCase W r s) (λ c. item running c.row c.shape) (λ c x. (x, tt)) (onward rows (record { row = r; shape = s })) (narrow_rows W r s (row_at rows r) (weighs r) n)
 
@@ -96,13 +96,13 @@ module _ (rows : List Command) (W : ℕ → ℕ) (weighs : (r : ℕ) → WeighsA
   low_rows : (w : Command) (r : ℕ) (s : Shape) → Small (length rows) w → (closes w ≡ false → suc r ≤ 41) → All_of Low (nexts w r s)
   low_rows (assign x e) r s m q = (q refl, tt)
   low_rows (load x y) r s m q = low_touch r (λ u. set_name u x (aim (u.edge (u.name y)))) (cells s (s.name y)) (q refl)
-  low_rows (store x e) r s m q = low_touch r (λ u. set_edge_lem u (u.name x) (Cell (u.name e))) (cells s (s.name x)) (q refl)
+  low_rows (store x e) r s m q = low_touch r (λ u. set_edge u (u.name x) (Cell (u.name e))) (cells s (s.name x)) (q refl)
   low_rows (new x) r s m q = (
     q refl,
-    all_gather Low s.size (λ j. cond (eqb j 0 || not (is_dead_lem (s.edge j))) [] (at (suc r) (new_at_lem s x j)))
-        (λ j l. elim (cases_Bool (eqb j 0 || not (is_dead_lem (s.edge j)))) [ inl t ↦ rw t tt | inr t ↦ rw t (q refl, tt) ]),
+    all_gather Low s.size (λ j. cond (eqb j 0 || not (is_dead (s.edge j))) [] (at (suc r) (new_at_lem s x j)))
+        (λ j l. elim (cases_Bool (eqb j 0 || not (is_dead (s.edge j)))) [ inl t ↦ rw t tt | inr t ↦ rw t (q refl, tt) ]),
   )
-  low_rows (free x) r s m q = low_touch r (λ u. set_edge_lem u (u.name x) Dead) (cells s (s.name x)) (q refl)
+  low_rows (free x) r s m q = low_touch r (λ u. set_edge u (u.name x) Dead) (cells s (s.name x)) (q refl)
   low_rows (jump t) r s m q = (let a = m.1 in omega arith, tt)
   low_rows (branch e f t) r s m q = let a = m.3 in elim (cases_Bool (eqb (s.name e) (s.name f))) [ inl b ↦ rw b (omega arith, tt) | inr b ↦ rw b (q refl, tt) ]
   low_rows (cut l) r s m q = tt
@@ -126,9 +126,9 @@ module _ (rows : List Command) (W : ℕ → ℕ) (weighs : (r : ℕ) → WeighsA
   stays_low (adding (Neq x y ∷ l)) r s q = adds_low l r (add (Neq x y) s) q
   stays_low (adding (Next x y ∷ l)) r s q = adds_low l r (add (Next x y) s) q
   stays_low (adding (Lseg x y ∷ l)) r s q = elim (cases_Bool (eqb (s.name x) (s.name y))) [ inl t ↦ rw t (q, tt) | inr t ↦ rw t (q, tt) ]
-  stays_low (linking i j l) r s q = elim (cases_Bool (eqb i 0 || not (is_dead_lem (s.edge i)))) [
+  stays_low (linking i j l) r s q = elim (cases_Bool (eqb i 0 || not (is_dead (s.edge i)))) [
     | inl t ↦ rw t tt
-    | inr t ↦ rw t (q, all_gather Lowly s.size (laid s i j l r) (λ o p. elim (cases_Bool (eqb o i || (eqb o j || (eqb o 0 || not (is_dead_lem (s.edge o)))))) [ inl u ↦ rw u tt | inr u ↦ rw u (q, tt) ]))
+    | inr t ↦ rw t (q, all_gather Lowly s.size (laid s i j l r) (λ o p. elim (cases_Bool (eqb o i || (eqb o j || (eqb o 0 || not (is_dead (s.edge o)))))) [ inl u ↦ rw u tt | inr u ↦ rw u (q, tt) ]))
   ]
   stays_low running r s q = all_flat Lowly Low (λ c. item running c.row c.shape) (λ c x. (x, tt)) (onward rows (record { row = r; shape = s }))
       (low_rows (row_at rows r) r s (small r) (λ e. let i = inside r e in omega arith))

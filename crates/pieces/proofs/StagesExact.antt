@@ -9,11 +9,11 @@ use Rattle.pieces.specs.Pieces.{mem}
 use Rattle.pieces.specs.declared.shapes.Edge.{Edge}
 use Rattle.pieces.specs.declared.shapes.Edge.TheVariants.{Dead, Cell, Segment}
 use Rattle.pieces.specs.Pieces.{put}
-use Rattle.pieces.specs.ModelShapes.{Sound, Model, Shape, Fits, SoundShape, set_edge_lem, set_name, add_node_lem}
+use Rattle.pieces.specs.ModelShapes.{Sound, Model, Shape, Fits, SoundShape, set_edge, set_name, add_node}
 use Rattle.heap.specs.declared.atoms.Atom.{Atom}
 use Rattle.heap.specs.declared.atoms.Atom.TheVariants.{Eq, Neq, Next, Lseg}
 use Rattle.heap.specs.Lists.{Holds}
-use Rattle.pieces.specs.ModelCover.{is_dead_lem, all_dead_lem}
+use Rattle.pieces.specs.ModelCover.{is_dead, all_dead}
 use Rattle.pieces.specs.ModelChoices.{SomeOf, gather}
 use Rattle.pieces.specs.ModelChoices.{flat, All_of}
 use Rattle.pieces.specs.ModelOpening.{place, add, bare, clashes, clash}
@@ -94,11 +94,11 @@ module _ (rows : List Command) (r : ℕ) (env : ℕ → ℕ) (h : Heap) where
   ]
 
 abbrev pub skips : Shape → ℕ → ℕ → ℕ → Bool
-skips s i j k = eqb k i || (eqb k j || (eqb k 0 || not (is_dead_lem (s.edge k))))
+skips s i j k = eqb k i || (eqb k j || (eqb k 0 || not (is_dead (s.edge k))))
 
 -- one step of a segment that is laid over the nodes
 module _ (m : ℕ) (val : ℕ → ℕ) (g : Heap) (edge : ℕ → Edge) (i j : ℕ) (xs : List ℕ) (p : i < m) (q : j < m) (d : val i ≢ val j) (M : Model m edge val (minus g xs)) (R : Run g (val i) (val j) xs) where
-  guard : (eqb i 0 || not (is_dead_lem (edge i))) ≡ false
+  guard : (eqb i 0 || not (is_dead (edge i))) ≡ false
   guard = let e = dead_on m val g edge i j xs p q d M R i p (run_first R d) in let n = off_zero m val g edge i j xs p q d M R in let z : eqb i 0 ≡ false = grind (arith, nat_tests) in rw (z, e)
 
   abbrev Via : Type 0
@@ -135,7 +135,7 @@ module _ (rows : List Command) (r : ℕ) (env : ℕ → ℕ) (h : Heap) (i j : �
       ])
 
   links_from : SomeOf (Saying env h) (afters rows (linking i j l) r s) → Says (linking i j l) s env h
-  links_from S = elim (cases_Bool (eqb i 0 || not (is_dead_lem (s.edge i)))) [
+  links_from S = elim (cases_Bool (eqb i 0 || not (is_dead (s.edge i)))) [
     | inl t ↦ absurd (rw t at S)
     | inr t ↦
         let e : s.edge i ≡ Dead = (elim (cases_edge (s.edge i)) [ inl e ↦ e | inr e ↦ absurd (grind (arith, nat_tests)) ]) in
@@ -204,7 +204,7 @@ module _ (rows : List Command) (r : ℕ) (env : ℕ → ℕ) (h : Heap) (l : Lis
     put_at : (F : Old s) (o : ℕ) → F.val o ≡ env c → PlacedFits (set_name s c o)
     put_at F o e = record { val = F.val; model = F.model; named = λ n. let a = F.named n in elim (cases_eq n c) [ inl b ↦ grind (arith, nat_tests) | inr b ↦ grind (arith, nat_tests) ] }
 
-    put_new : (F : Old s) → ((o : ℕ) → o < s.size → F.val o ≢ env c) → PlacedFits (set_name (add_node_lem s Dead) c s.size)
+    put_new : (F : Old s) → ((o : ℕ) → o < s.size → F.val o ≢ env c) → PlacedFits (set_name (add_node s Dead) c s.size)
     put_new F g = record {
       val = put F.val s.size (env c);
       named = λ n. let a = F.named n in let q = w.names_in n in elim (cases_eq n c) [ inl b ↦ grind (arith, nat_tests) | inr b ↦ grind (arith, nat_tests) ];
@@ -218,8 +218,8 @@ module _ (rows : List Command) (r : ℕ) (env : ℕ → ℕ) (h : Heap) (l : Lis
     well_at : (F : Old s) (o : ℕ) → o < s.size → F.val o ≡ env c → PlacedWell (set_name s c o)
     well_at F o q e = (sound_name s c o w q, put_at F o e)
 
-    well_new : (F : Old s) → ((o : ℕ) → o < s.size → F.val o ≢ env c) → PlacedWell (set_name (add_node_lem s Dead) c s.size)
-    well_new F g = (sound_name (add_node_lem s Dead) c s.size (sound_apart s Dead w (λ t e. absurd (grind (arith, nat_tests))) (λ t e. absurd (grind (arith, nat_tests)))) (omega arith), put_new F g)
+    well_new : (F : Old s) → ((o : ℕ) → o < s.size → F.val o ≢ env c) → PlacedWell (set_name (add_node s Dead) c s.size)
+    well_new F g = (sound_name (add_node s Dead) c s.size (sound_apart s Dead w (λ t e. absurd (grind (arith, nat_tests))) (λ t e. absurd (grind (arith, nat_tests)))) (omega arith), put_new F g)
 
     put_on : Holds env l h → (u : Shape) → PlacedWell u → SomeOf (Saying env h) (placed cs l r u)
     put_on H u (v, G) = let t = no_clash cs u env v G l h H in rw t (inl (G, H))
@@ -234,7 +234,7 @@ module _ (rows : List Command) (r : ℕ) (env : ℕ → ℕ) (h : Heap) (l : Lis
     take_at : (o : ℕ) → PlacedFits (set_name s c o) → Old s
     take_at o F = record { val = F.val; model = F.model; named = λ n. let a = F.named n in let z = F.model.nil in elim (cases_eq n c) [ inl b ↦ let y = vacant n (grind (arith, nat_tests)) in grind (arith, nat_tests) | inr b ↦ grind (arith, nat_tests) ] }
 
-    take_new : PlacedFits (set_name (add_node_lem s Dead) c s.size) → Old s
+    take_new : PlacedFits (set_name (add_node s Dead) c s.size) → Old s
     take_new F = record {
       val = F.val;
       named = λ n. let a = F.named n in let z = F.model.nil in elim (cases_eq n c) [ inl b ↦ let y = vacant n (grind (arith, nat_tests)) in grind (arith, nat_tests) | inr b ↦ grind (arith, nat_tests) ];

@@ -8,7 +8,7 @@ use Rattle.pieces.specs.Pieces.{mem}
 use Rattle.pieces.specs.declared.shapes.Edge.{Edge}
 use Rattle.pieces.specs.declared.shapes.Edge.TheVariants.{Dead, Cell, Segment}
 use Rattle.pieces.specs.Pieces.{put}
-use Rattle.pieces.specs.ModelShapes.{Sound, Model, Shape, Fits, SoundShape, short, long, new_at_lem, new_apart, Allocates, Two, set_edge_lem, set_name, add_node_lem}
+use Rattle.pieces.specs.ModelShapes.{Sound, Model, Shape, Fits, SoundShape, short, long, new_at_lem, new_apart, Allocates, Two, set_edge, set_name, add_node}
 use Rattle.pieces.proofs.SegmentRuns.{run_dead, minus-in, minus-out, minus-dead, run_agree, two_cells, without-same, run_unique}
 use Rattle.pieces.proofs.ShapeModels.{run_first, val_apart, starts, run_live, cases_edge, apart, off, take, take_as, give, widen, narrow}
 

@@ -3,7 +3,7 @@ use Rattle.std.specs.Prelude.{◌≡◌, ℕ, zero, suc, ◌+◌, ◌-◌, ◌<�
 use Rattle.pieces.specs.declared.shapes.Edge.{Edge}
 use Rattle.pieces.specs.declared.shapes.Edge.TheVariants.{Dead, Cell, Segment}
 use Rattle.pieces.specs.ModelShapes.{Shape}
-use Rattle.pieces.specs.ModelCover.{is_dead_lem}
+use Rattle.pieces.specs.ModelCover.{is_dead}
 use Rattle.pieces.specs.ModelChoices.{All_of}
 use Rattle.sheet.specs.Routines.{Command, assign, load, store, new, free, jump, branch, cut, call, done, Routine, list_of}
 use Rattle.pieces.specs.Pieces.{Contract, Opening, opening}
@@ -17,7 +17,7 @@ use Rattle.pieces.specs.ModelStages.{Stage, placing, adding, linking, running, I
 -- the dead nodes below m but nil
 abbrev pub spare : ℕ → (ℕ → Edge) → ℕ
 spare zero edge = 0
-spare (suc m) edge = cond (m == 0 || not (is_dead_lem (edge m))) (spare m edge) (suc (spare m edge))
+spare (suc m) edge = cond (m == 0 || not (is_dead (edge m))) (spare m edge) (suc (spare m edge))
 
 abbrev pub tri : ℕ → ℕ
 tri zero = 0
@@ -84,8 +84,8 @@ Small n (call x q y z s t l) = (q < 16) × (x < 9) × (y < 9) × (z < 9) × (s <
 Small n done = Unit {0}
 
 -- the weight from row r on
-abbrev pub weight_from_lem : List Command → ℕ → ℕ
-weight_from_lem rows r = cond (r == 0) 41 (slice_index (weights 1 rows) (r - 1))
+abbrev pub weight_from : List Command → ℕ → ℕ
+weight_from rows r = cond (r == 0) 41 (slice_index (weights 1 rows) (r - 1))
 
 -- a shape has at most 17 nodes: nil, one for each name, one for each row that weighs
 abbrev pub Narrow : (ℕ → ℕ) → Stage → ℕ → Shape → Type 0
@@ -119,9 +119,9 @@ pub record Formed (R : Routine) : Type 0 where
   pub few_arguments : R.arguments ≤ 6
   pub few_ghosts : R.ghosts ≤ 2
   pub forward : Forward R.rows
-  pub weighs : (r : ℕ) → WeighsAt (weight_from_lem R.rows) r (row_at R.rows r)
+  pub weighs : (r : ℕ) → WeighsAt (weight_from R.rows) r (row_at R.rows r)
   pub small : (r : ℕ) → Small (length R.rows) (row_at R.rows r)
-  pub light : (callee : ℕ → Contract) (p : ℕ) (o : Opening) → opening callee R p ≡ Some o → weight_from_lem R.rows o.row ≤ 8
+  pub light : (callee : ℕ → Contract) (p : ℕ) (o : Opening) → opening callee R p ≡ Some o → weight_from R.rows o.row ≤ 8
   pub low : (callee : ℕ → Contract) (p : ℕ) (o : Opening) → opening callee R p ≡ Some o → o.row ≤ 41
   pub row_few : (i : ℕ) → length (list_of (slice_index_or R.rows i done)) ≤ 8
   pub row_atoms : (i k : ℕ) (d : Atom) → k < length (list_of (slice_index_or R.rows i done)) → AtomSmall (slice_index_or (list_of (slice_index_or R.rows i done)) k d)

@@ -7,8 +7,8 @@ use Rattle.pieces.specs.declared.shapes.Edge.{Edge}
 use Rattle.pieces.specs.declared.shapes.Edge.TheVariants.{Dead, Cell, Segment}
 use Rattle.pieces.specs.Pieces.{State, Runs, Contract, touched, closing}
 use Rattle.pieces.specs.ModelChoices.{flat, gather}
-use Rattle.pieces.specs.ModelShapes.{Shape, Fits, set_edge_lem, set_name, short, long, new_at_lem, new_apart}
-use Rattle.pieces.specs.ModelCover.{is_dead_lem, covered}
+use Rattle.pieces.specs.ModelShapes.{Shape, Fits, set_edge, set_name, short, long, new_at_lem, new_apart}
+use Rattle.pieces.specs.ModelCover.{is_dead, covered}
 
 pub record Case : Type 0 where
   pub row : ℕ
@@ -35,9 +35,9 @@ at r s = record { row = r; shape = s } ∷ []
 abbrev pub nexts : Command → ℕ → Shape → List Case
 nexts (assign x e) r s = at (suc r) (set_name s x (s.name e))
 nexts (load x y) r s = flat (λ u. at (suc r) (set_name u x (aim (u.edge (u.name y))))) (cells s (s.name y))
-nexts (store x e) r s = flat (λ u. at (suc r) (set_edge_lem u (u.name x) (Cell (u.name e)))) (cells s (s.name x))
-nexts (new x) r s = at (suc r) (new_apart s x) ++ gather s.size (λ j. cond (j == 0 || not (is_dead_lem (s.edge j))) [] (at (suc r) (new_at_lem s x j)))
-nexts (free x) r s = flat (λ u. at (suc r) (set_edge_lem u (u.name x) Dead)) (cells s (s.name x))
+nexts (store x e) r s = flat (λ u. at (suc r) (set_edge u (u.name x) (Cell (u.name e)))) (cells s (s.name x))
+nexts (new x) r s = at (suc r) (new_apart s x) ++ gather s.size (λ j. cond (j == 0 || not (is_dead (s.edge j))) [] (at (suc r) (new_at_lem s x j)))
+nexts (free x) r s = flat (λ u. at (suc r) (set_edge u (u.name x) Dead)) (cells s (s.name x))
 nexts (jump t) r s = at t s
 nexts (branch e f t) r s = cond (s.name e == s.name f) (at t s) (at (suc r) s)
 nexts (cut l) r s = []
@@ -47,7 +47,7 @@ nexts done r s = []
 -- the row touches a dead node
 abbrev pub dead_at : Option ℕ → Shape → Bool
 dead_at None s = false
-dead_at (Some x) s = is_dead_lem (s.edge (s.name x))
+dead_at (Some x) s = is_dead (s.edge (s.name x))
 
 abbrev pub misses : Command → Shape → Bool
 misses w s = dead_at (touched w) s

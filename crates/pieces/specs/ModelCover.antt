@@ -16,28 +16,28 @@ Takes env (Neq x y ∷ r) h = (env x ≢ env y) × Takes env r h
 Takes env (Next x y ∷ r) h = (env x ≢ 0) × (h (env x) ≡ Some (env y)) × Takes env r (without h (env x))
 Takes env (Lseg x y ∷ r) h = (xs : List ℕ) × Run h (env x) (env y) xs × Takes env r (minus h xs)
 
-abbrev pub is_dead_lem : Edge → Bool
-is_dead_lem Dead = true
-is_dead_lem (Cell t) = false
-is_dead_lem (Segment t) = false
+abbrev pub is_dead : Edge → Bool
+is_dead Dead = true
+is_dead (Cell t) = false
+is_dead (Segment t) = false
 
-abbrev pub all_dead_lem : ℕ → (ℕ → Edge) → Bool
-all_dead_lem zero edge = true
-all_dead_lem (suc m) edge = is_dead_lem (edge m) && all_dead_lem m edge
+abbrev pub all_dead : ℕ → (ℕ → Edge) → Bool
+all_dead zero edge = true
+all_dead (suc m) edge = is_dead (edge m) && all_dead m edge
 
 -- from the node i along the edges to j: the edges that are left
 abbrev pub walk : ℕ → (ℕ → Edge) → ℕ → ℕ → Option (ℕ → Edge)
 walk zero edge i j = cond (i == j) (Some edge) None
 walk (suc n) edge i j = cond (i == j) (Some edge) (elim (edge i) [ Dead ↦ None | Cell t ↦ walk n (put edge i Dead) t j | Segment t ↦ walk n (put edge i Dead) t j ])
 
-abbrev pub if_cell_lem : Edge → ℕ → Bool
-if_cell_lem Dead j = false
-if_cell_lem (Cell t) j = t == j
-if_cell_lem (Segment t) j = false
+abbrev pub if_cell : Edge → ℕ → Bool
+if_cell Dead j = false
+if_cell (Cell t) j = t == j
+if_cell (Segment t) j = false
 
 abbrev pub covered : ℕ → (ℕ → ℕ) → List Atom → (ℕ → Edge) → Bool
-covered m name [] edge = all_dead_lem m edge
+covered m name [] edge = all_dead m edge
 covered m name (Eq x y ∷ r) edge = name x == name y && covered m name r edge
 covered m name (Neq x y ∷ r) edge = not (name x == name y) && covered m name r edge
-covered m name (Next x y ∷ r) edge = if_cell_lem (edge (name x)) (name y) && covered m name r (put edge (name x) Dead)
+covered m name (Next x y ∷ r) edge = if_cell (edge (name x)) (name y) && covered m name r (put edge (name x) Dead)
 covered m name (Lseg x y ∷ r) edge = elim (walk m edge (name x) (name y)) [ None ↦ false | Some left ↦ covered m name r left ]

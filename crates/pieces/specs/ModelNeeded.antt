@@ -6,15 +6,15 @@ use Rattle.sheet.specs.Routines.{Command, assign, load, store, new, free, jump, 
 use Rattle.sheet.specs.Flow.{row_at}
 use Rattle.pieces.specs.Pieces.{Contract, Opening, closing}
 
-abbrev pub in_atom_lem : ℕ → Atom → Bool
-in_atom_lem n (Eq x y) = n == x || n == y
-in_atom_lem n (Neq x y) = n == x || n == y
-in_atom_lem n (Next x y) = n == x || n == y
-in_atom_lem n (Lseg x y) = n == x || n == y
+abbrev pub in_atom : ℕ → Atom → Bool
+in_atom n (Eq x y) = n == x || n == y
+in_atom n (Neq x y) = n == x || n == y
+in_atom n (Next x y) = n == x || n == y
+in_atom n (Lseg x y) = n == x || n == y
 
 abbrev pub mentions : ℕ → List Atom → Bool
 mentions n [] = false
-mentions n (a ∷ l) = in_atom_lem n a || mentions n l
+mentions n (a ∷ l) = in_atom n a || mentions n l
 
 abbrev pub mentioned : ℕ → Option (List Atom) → Bool
 mentioned n None = false

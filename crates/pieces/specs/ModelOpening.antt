@@ -6,8 +6,8 @@ use Rattle.pieces.specs.declared.shapes.Edge.{Edge}
 use Rattle.pieces.specs.declared.shapes.Edge.TheVariants.{Dead, Cell, Segment}
 use Rattle.pieces.specs.Pieces.{mem}
 use Rattle.pieces.specs.ModelChoices.{gather}
-use Rattle.pieces.specs.ModelShapes.{Shape, set_edge_lem, set_name, add_node_lem}
-use Rattle.pieces.specs.ModelCover.{is_dead_lem}
+use Rattle.pieces.specs.ModelShapes.{Shape, set_edge, set_name, add_node}
+use Rattle.pieces.specs.ModelCover.{is_dead}
 
 -- nil alone
 abbrev pub bare : Shape
@@ -15,13 +15,13 @@ bare = record { size = 1; name = λ n. 0; edge = λ i. Dead }
 
 -- where the name c can be: at a node of its own, or at one that is there
 abbrev pub place : ℕ → Shape → List Shape
-place c s = set_name (add_node_lem s Dead) c s.size ∷ gather s.size (λ k. set_name s c k ∷ [])
+place c s = set_name (add_node s Dead) c s.size ∷ gather s.size (λ k. set_name s c k ∷ [])
 
 -- one atom more; of segments only the empty one
 abbrev pub add : Atom → Shape → List Shape
 add (Eq x y) s = cond (s.name x == s.name y) (s ∷ []) []
 add (Neq x y) s = cond (s.name x == s.name y) [] (s ∷ [])
-add (Next x y) s = cond (s.name x == 0) [] (cond (is_dead_lem (s.edge (s.name x))) (set_edge_lem s (s.name x) (Cell (s.name y)) ∷ []) [])
+add (Next x y) s = cond (s.name x == 0) [] (cond (is_dead (s.edge (s.name x))) (set_edge s (s.name x) (Cell (s.name y)) ∷ []) [])
 add (Lseg x y) s = cond (s.name x == s.name y) (s ∷ []) []
 
 -- an Eq or Neq whose names are both placed, none of them among cs, and which is false

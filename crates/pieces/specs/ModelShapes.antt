@@ -41,30 +41,30 @@ abbrev pub SoundShape : Shape → Type 0
 SoundShape s = Sound s.size s.edge s.name
 
 -- the edge of the node i is e
-abbrev pub set_edge_lem : Shape → ℕ → Edge → Shape
-set_edge_lem s i e = record { size = s.size; name = s.name; edge = put s.edge i e }
+abbrev pub set_edge : Shape → ℕ → Edge → Shape
+set_edge s i e = record { size = s.size; name = s.name; edge = put s.edge i e }
 
 -- the name x is at the node i
 abbrev pub set_name : Shape → ℕ → ℕ → Shape
 set_name s x i = record { size = s.size; name = put s.name x i; edge = s.edge }
 
 -- one more node, with the edge e
-abbrev pub add_node_lem : Shape → Edge → Shape
-add_node_lem s e = record { size = suc s.size; name = s.name; edge = put s.edge s.size e }
+abbrev pub add_node : Shape → Edge → Shape
+add_node s e = record { size = suc s.size; name = s.name; edge = put s.edge s.size e }
 
 -- the two cases of a segment from i to t: one cell, or a cell and a segment from a fresh node
 abbrev pub short : Shape → ℕ → ℕ → Shape
-short s i t = set_edge_lem s i (Cell t)
+short s i t = set_edge s i (Cell t)
 
 abbrev pub long : Shape → ℕ → ℕ → Shape
-long s i t = add_node_lem (set_edge_lem s i (Cell s.size)) (Segment t)
+long s i t = add_node (set_edge s i (Cell s.size)) (Segment t)
 
 -- the name x becomes a fresh cell, with the link nil: at a dead node, or at a node of its own
 abbrev pub new_at_lem : Shape → ℕ → ℕ → Shape
-new_at_lem s x i = set_name (set_edge_lem s i (Cell 0)) x i
+new_at_lem s x i = set_name (set_edge s i (Cell 0)) x i
 
 abbrev pub new_apart : Shape → ℕ → Shape
-new_apart s x = set_name (add_node_lem s (Cell 0)) x s.size
+new_apart s x = set_name (add_node s (Cell 0)) x s.size
 
 -- what the machine does at such a step
 pub record Allocates (x : ℕ) (env : ℕ → ℕ) (h : Heap) (env' : ℕ → ℕ) (h' : Heap) : Type 0 where

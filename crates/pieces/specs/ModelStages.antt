@@ -10,8 +10,8 @@ use Rattle.pieces.specs.declared.shapes.Edge.TheVariants.{Dead, Cell, Segment}
 use Rattle.pieces.specs.Pieces.{mem, Opening, State, Runs}
 use Rattle.pieces.specs.ModelRuns.{Run, minus}
 use Rattle.pieces.specs.ModelChoices.{gather, SomeOf, flat}
-use Rattle.pieces.specs.ModelShapes.{Shape, SoundShape, Fits, set_edge_lem}
-use Rattle.pieces.specs.ModelCover.{is_dead_lem}
+use Rattle.pieces.specs.ModelShapes.{Shape, SoundShape, Fits, set_edge}
+use Rattle.pieces.specs.ModelCover.{is_dead}
 use Rattle.pieces.specs.ModelOpening.{place, add, bare, clash}
 use Rattle.pieces.specs.ModelCases.{Case, onward, hit}
 
@@ -36,7 +36,7 @@ placed cs l r u = cond (clash cs u l) [] (item (placing cs l) r u)
 
 -- a segment goes on from i over the node k
 abbrev pub laid : Shape → ℕ → ℕ → List Atom → ℕ → ℕ → List Item
-laid s i j l r k = cond (k == i || (k == j || (k == 0 || not (is_dead_lem (s.edge k))))) [] (item (linking k j l) r (set_edge_lem s i (Segment k)))
+laid s i j l r k = cond (k == i || (k == j || (k == 0 || not (is_dead (s.edge k))))) [] (item (linking k j l) r (set_edge s i (Segment k)))
 
 -- the items behind an item
 abbrev pub afters : List Command → Stage → ℕ → Shape → List Item
@@ -47,7 +47,7 @@ afters rows (adding (Eq x y ∷ l)) r s = flat (λ u. item (adding l) r u) (add 
 afters rows (adding (Neq x y ∷ l)) r s = flat (λ u. item (adding l) r u) (add (Neq x y) s)
 afters rows (adding (Next x y ∷ l)) r s = flat (λ u. item (adding l) r u) (add (Next x y) s)
 afters rows (adding (Lseg x y ∷ l)) r s = cond (s.name x == s.name y) (item (adding l) r s) (item (linking (s.name x) (s.name y) l) r s)
-afters rows (linking i j l) r s = cond (i == 0 || not (is_dead_lem (s.edge i))) [] (record { stage = adding l; row = r; shape = set_edge_lem s i (Segment j) } ∷ gather s.size (laid s i j l r))
+afters rows (linking i j l) r s = cond (i == 0 || not (is_dead (s.edge i))) [] (record { stage = adding l; row = r; shape = set_edge s i (Segment j) } ∷ gather s.size (laid s i j l r))
 afters rows running r s = flat (λ c. item running c.row c.shape) (onward rows (record { row = r; shape = s }))
 
 abbrev pub cleared : List ℕ → (ℕ → ℕ) → ℕ → ℕ
@@ -98,8 +98,8 @@ item_hits test rows running r s = hit test rows (record { row = r; shape = s })
 abbrev pub nexts_of : List Command → Item → List Item
 nexts_of rows it = afters rows it.stage it.row it.shape
 
-abbrev pub hits_of_lem : (Command → Shape → Bool) → List Command → Item → List ℕ
-hits_of_lem test rows it = item_hits test rows it.stage it.row it.shape
+abbrev pub hits_of : (Command → Shape → Bool) → List Command → Item → List ℕ
+hits_of test rows it = item_hits test rows it.stage it.row it.shape
 
 -- some state of the item comes to the state g
 abbrev pub Reaches : List Command → State → Item → Type 0

@@ -7,13 +7,13 @@ use Rattle.heap.specs.declared.atoms.Atom.{Atom}
 use Rattle.sheet.specs.Routines.{Command, assign, load, store, new, free, jump, branch, cut, call, done, Routine}
 use Rattle.sheet.specs.Flow.{row_at, closes}
 use Rattle.pieces.specs.Pieces.{Contract, closing, Misses, Lives, Breaks, Keeps}
-use Rattle.pieces.specs.ModelBounds.{Formed, Narrow, Ready, Stacked, weight_from_lem, room, deep, depth, spare, WeighsAt, Small}
+use Rattle.pieces.specs.ModelBounds.{Formed, Narrow, Ready, Stacked, weight_from, room, deep, depth, spare, WeighsAt, Small}
 use Rattle.pieces.specs.ModelCases.{misses, breaks}
 use Rattle.pieces.specs.ModelChoices.{All_of, lowest}
 use Rattle.pieces.specs.ModelPiles.{either, total, tree}
 use Rattle.pieces.specs.ModelSearch.{Swept, Searched}
 use Rattle.pieces.specs.ModelShapes.{Shape, SoundShape}
-use Rattle.pieces.specs.ModelStages.{Stage, placing, adding, linking, running, Item, Proper, Kept, nexts_of, hits_of_lem, afters}
+use Rattle.pieces.specs.ModelStages.{Stage, placing, adding, linking, running, Item, Proper, Kept, nexts_of, hits_of, afters}
 use Rattle.pieces.proofs.Choices.{all_both}
 use Rattle.pieces.proofs.CasesLead.{decides_misses, decides_breaks}
 use Rattle.pieces.proofs.ItemsLead.{keeps_items}
@@ -37,7 +37,7 @@ proper_sound (linking i j l) s p = p.0
 proper_sound running s p = p
 
 -- at a case before the rows nothing is found
-stage_hits : (names : List ℕ) (atoms : List Atom) (test : Command → Shape → Bool) (rows : List Command) (t : codes.Stage) (r : ℕ) (s : Shape) → is_running t ≡ false → hits_of_lem test rows (record { stage = stage_in names atoms t; row = r; shape = s }) ≡ []
+stage_hits : (names : List ℕ) (atoms : List Atom) (test : Command → Shape → Bool) (rows : List Command) (t : codes.Stage) (r : ℕ) (s : Shape) → is_running t ≡ false → hits_of test rows (record { stage = stage_in names atoms t; row = r; shape = s }) ≡ []
 stage_hits names atoms test rows (code.Placing k) r s e = refl
 stage_hits names atoms test rows (code.Adding k) r s e = refl
 stage_hits names atoms test rows (code.Linking i j k) r s e = refl
@@ -50,10 +50,10 @@ running_is (code.Linking i j k) e = absurd (grind (arith, nat_tests))
 running_is code.Running e = refl
 
 module _ (names : List ℕ) (atoms : List Atom) (rows : List Command) (k : Case) where
-  pub none_found : (test : Command → Shape → Bool) (f : Option ℕ) → is_running (stage_of k) ≡ false → f ≡ either (lowest (hits_of_lem test rows (item_in names atoms k))) f
+  pub none_found : (test : Command → Shape → Bool) (f : Option ℕ) → is_running (stage_of k) ≡ false → f ≡ either (lowest (hits_of test rows (item_in names atoms k))) f
   none_found test f e = let h = stage_hits names atoms test rows (stage_of k) (row_of k) (shape_of k) e in rw h
 
-  pub hits_at : (test : Command → Shape → Bool) (b : Bool) → is_running (stage_of k) ≡ true → b ≡ test (row_at rows (row_of k)) (shape_of k) → cond b (row_of k ∷ []) [] ≡ hits_of_lem test rows (item_in names atoms k)
+  pub hits_at : (test : Command → Shape → Bool) (b : Bool) → is_running (stage_of k) ≡ true → b ≡ test (row_at rows (row_of k)) (shape_of k) → cond b (row_of k ∷ []) [] ≡ hits_of test rows (item_in names atoms k)
   hits_at test b e q = let t = running_is (stage_of k) e in rw (q, t)
 
 pub misses_step : (w : Command) (step : Step) (s : Shape) → step ≡ step_of w → misses_by step s ≡ misses w s
@@ -99,7 +99,7 @@ weigh_room W r done l t = absurd (grind (arith, nat_tests))
 
 module _ (R : Routine) (F : Formed R) (names : List ℕ) (atoms : List Atom) where
   abbrev W : ℕ → ℕ
-  W = weight_from_lem R.rows
+  W = weight_from R.rows
 
   slim_nodes : (t : codes.Stage) (r : ℕ) (s : Shape) → Narrow W (stage_in names atoms t) r s → s.size ≤ 17
   slim_nodes (code.Placing k) r s n = omega arith
@@ -148,17 +148,17 @@ module _ (R : Routine) (F : Formed R) (names : List ℕ) (atoms : List Atom) whe
       stacked_on = subst (Stacked W cap) laid_is (stacked_next R.rows W F.weighs F.small F.few_rows cap (item_in names atoms k) (items_in names atoms was) S)
 
       pub searched_on : (callee : ℕ → Contract) (start : List Item) (dead broken dead' broken' : Option ℕ)
-          → dead' ≡ either (lowest (hits_of_lem misses R.rows (item_in names atoms k))) dead
-          → broken' ≡ either (lowest (hits_of_lem (breaks callee R.after) R.rows (item_in names atoms k))) broken
+          → dead' ≡ either (lowest (hits_of misses R.rows (item_in names atoms k))) dead
+          → broken' ≡ either (lowest (hits_of (breaks callee R.after) R.rows (item_in names atoms k))) broken
           → Searched callee R.after R.rows start dead broken (item_in names atoms k ∷ items_in names atoms was) → Searched callee R.after R.rows start dead' broken' (items_in names atoms left)
       searched_on callee start dead broken dead' broken' p q T =
           let kept = S.0.proper in
           let a = turn Misses Lives misses decides_misses R.rows start dead (items_in names atoms was) (item_in names atoms k) kept T.touching in
           let b = turn (Breaks callee R.after) (Keeps callee R.after) (breaks callee R.after) (decides_breaks callee R.after) R.rows start broken (items_in names atoms was) (item_in names atoms k) kept T.closing in
           record {
-            touching = subst (λ o. Swept Misses Lives R.rows start o (items_in names atoms left)) (sym p) (subst (λ l. Swept Misses Lives R.rows start (either (lowest (hits_of_lem misses R.rows (item_in names atoms k))) dead) l) laid_is a);
+            touching = subst (λ o. Swept Misses Lives R.rows start o (items_in names atoms left)) (sym p) (subst (λ l. Swept Misses Lives R.rows start (either (lowest (hits_of misses R.rows (item_in names atoms k))) dead) l) laid_is a);
             closing = subst (λ o. Swept (Breaks callee R.after) (Keeps callee R.after) R.rows start o (items_in names atoms left)) (sym q)
-                (subst (λ l. Swept (Breaks callee R.after) (Keeps callee R.after) R.rows start (either (lowest (hits_of_lem (breaks callee R.after) R.rows (item_in names atoms k))) broken) l) laid_is b);
+                (subst (λ l. Swept (Breaks callee R.after) (Keeps callee R.after) R.rows start (either (lowest (hits_of (breaks callee R.after) R.rows (item_in names atoms k))) broken) l) laid_is b);
           }
 
       abbrev deep_of : Item → ℕ

@@ -4,7 +4,7 @@ use Rattle.heap.specs.declared.atoms.Atom.{Atom}
 use Rattle.sheet.specs.Contents.{routine_of}
 use Rattle.sheet.specs.Routines.{Command, Routine}
 use Rattle.pieces.specs.Pieces.{Contract, Opening}
-use Rattle.pieces.specs.ModelBounds.{Formed, weight_from_lem, Stacked}
+use Rattle.pieces.specs.ModelBounds.{Formed, weight_from, Stacked}
 use Rattle.pieces.specs.ModelCover.{covered}
 use Rattle.pieces.specs.ModelPiles.{total, tree}
 use Rattle.pieces.specs.ModelChoices.{gather}

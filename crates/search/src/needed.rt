@@ -1,7 +1,7 @@
 // The names that a piece needs from a row on: read before they are written on some way, or in the list that closes it.
 ghost use Rattle.std.specs.Prelude.{◌≡◌, ℕ, suc, ◌<◌, ◌≤◌, ◌||◌, length, if◌then◌else◌, nat_lt};
 ghost use Rattle.heap.specs.Lists.{renamed};
-ghost use Rattle.pieces.specs.ModelNeeded.{in_atom_lem as in_atom, mentions as mentions_in};
+ghost use Rattle.pieces.specs.ModelNeeded.{in_atom, mentions as mentions_in};
 ghost use Rattle.search.specs.Needs.{need_by, need_in, closes_in, Known, AllKnown, needed_in};
 ghost use Rattle.search.specs.Programs.{no_assertion, SmallAssertion};
 ghost use Rattle.cases.specs.Steps.{SmallStep};

@@ -3,12 +3,12 @@ ghost use Rattle.std.specs.Prelude.{◌≡◌, ℕ, ◌-◌, ◌<◌, ◌≤◌,
 ghost use Rattle.heap.specs.Piles.{capacity, entries};
 ghost use Rattle.heap.specs.declared.atoms.Atom.{Atom as AtomT};
 ghost use Rattle.sheet.specs.Flow.{row_at};
-ghost use Rattle.pieces.specs.ModelBounds.{weight_from_lem as weight_from, Stacked};
+ghost use Rattle.pieces.specs.ModelBounds.{weight_from, Stacked};
 ghost use Rattle.pieces.specs.ModelCases.{misses as misses_in, breaks as breaks_in};
 ghost use Rattle.pieces.specs.ModelChoices.{lowest};
 ghost use Rattle.pieces.specs.ModelPiles.{either};
 ghost use Rattle.pieces.specs.ModelShapes.{SoundShape};
-ghost use Rattle.pieces.specs.ModelStages.{hits_of_lem as hits_of, Item, opened, Apart};
+ghost use Rattle.pieces.specs.ModelStages.{hits_of, Item, opened, Apart};
 ghost use Rattle.cases.specs.Items.{shape_of, nodes_of, row_of, item_in, items_in, SmallNames, SmallAtoms};
 ghost use Rattle.cases.specs.Steps.{step_of, misses_by, SmallStep};
 ghost use Rattle.search.specs.Assertions.{assertion_in};

@@ -9,7 +9,7 @@ use Rattle.pieces.specs.Pieces.{State, Contract, Opening, from, given, behind, M
 use Rattle.pieces.specs.ModelChoices.{All_of, gather, lowest}
 use Rattle.pieces.specs.ModelShapes.{Shape}
 use Rattle.pieces.specs.ModelCases.{misses, breaks}
-use Rattle.pieces.specs.ModelStages.{Item, Kept, Apart, opened, nexts_of, hits_of_lem}
+use Rattle.pieces.specs.ModelStages.{Item, Kept, Apart, opened, nexts_of, hits_of}
 use Rattle.pieces.specs.ModelNeeded.{Enough, mentions, lean}
 use Rattle.pieces.specs.ModelPiles.{drain}
 use Rattle.pieces.specs.ModelSearch.{Swept, start_of, start_at, judge}
@@ -36,7 +36,7 @@ starts callee R = gather (suc (length R.rows)) (start_at every callee R)
 
 -- the rows at which the test says yes, if the turns suffice
 abbrev pub rows_found : (Command → Shape → Bool) → (ℕ → Contract) → Routine → ℕ → Option (List ℕ)
-rows_found test callee R turns = drain (nexts_of R.rows) (hits_of_lem test R.rows) turns (starts callee R) []
+rows_found test callee R turns = drain (nexts_of R.rows) (hits_of test R.rows) turns (starts callee R) []
 
 abbrev pub judge_found : Option (List ℕ) → Option (List ℕ) → Option Verdict
 judge_found None b = None

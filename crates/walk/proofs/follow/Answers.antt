@@ -3,10 +3,10 @@ use Rattle.std.proofs.Common.{◌≡◌, suc, ◌+◌, ◌-◌, arith, rules}
 use Rattle.walk.proofs.Walks.{steps-dead, steps-more}
 use Rattle.walk.proofs.follow.Goals as goal
 
-pub returns-in-default : goal.returns-in-default
-returns-in-default g c =
+pub returns-in_default : goal.returns-in_default
+returns-in_default g c =
     let h = (g.S.Store.meaning c.args.store.now).heap in
-    let dead = c.in-default.ensures.answer.dead in
+    let dead = c.in_default.ensures.answer.dead in
     let none = steps-dead h (c.args.most - c.loop-count.count) c.loop-count.at (rw c.loop-count.invariant.0 at dead) in
     record { value = omega (arith, none); same = search rules; kinds = search rules; home = search rules }
 

@@ -8,8 +8,8 @@ use Rattle.answers.proofs.summaries.atoms_in.Goals as goal
 pub loop-row-preserved : goal.loop-row-preserved
 loop-row-preserved c =
     let m = at_drop_more count_rows c.args.rows.now c.loop-row.row-index (Set 0 0) c.loop-row-test.true in
-    let n = c.atoms-behind-sum.ensures.count in
-    let f = c.atoms-behind-sum.ensures.few in
+    let n = c.atoms_behind-sum.ensures.count in
+    let f = c.atoms_behind-sum.ensures.few in
     (omega arith, omega arith)
 
 pub returns : goal.returns

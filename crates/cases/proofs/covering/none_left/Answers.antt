@@ -4,8 +4,8 @@ use Rattle.cases.specs.Covers.{edges_of}
 use Rattle.cases.proofs.Walks.{one_left, none_left}
 use Rattle.cases.proofs.covering.none_left.Goals as goal
 
-pub returns-then-not-is-dead : goal.returns-then-not-is-dead
-returns-then-not-is-dead c = one_left c.args.nodes (edges_of c.args.edges.now) c.loop-k.k c.loop-k-test.true (search rules)
+pub returns-then-not-is_dead : goal.returns-then-not-is_dead
+returns-then-not-is_dead c = one_left c.args.nodes (edges_of c.args.edges.now) c.loop-k.k c.loop-k-test.true (search rules)
 
 pub returns : goal.returns
 returns c = none_left c.args.nodes (edges_of c.args.edges.now) (λ k q. c.loop-k.invariant k (let t = c.loop-k-test.false in omega arith))

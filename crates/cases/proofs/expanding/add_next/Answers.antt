@@ -25,9 +25,9 @@ returns-then-k-atoms c =
 pub returns-else-k-atoms : goal.returns-else-k-atoms
 returns-else-k-atoms c =
     let e = behind_added c.args.atoms.now c.args.k c.args.case.row (shape_of c.args.case) c.if-k-atoms.false in
-    let a = c.at-stage.ensures in
+    let a = c.at_stage.ensures in
     record {
       piled = λ names. subst (λ l. LaidAs names c.args.atoms.now l (entries c.args.pile.now) (entries c.put.new.pile)) (sym e)
-          (laid_one names c.args.atoms.now c.at-stage.result Running c.args.case.row (shape_of c.args.case) (entries c.args.pile.now) (entries c.put.new.pile) a.stage a.row a.shape c.put.ensures.piled);
+          (laid_one names c.args.atoms.now c.at_stage.result Running c.args.case.row (shape_of c.args.case) (entries c.args.pile.now) (entries c.put.new.pile) a.stage a.row a.shape c.put.ensures.piled);
       room = c.put.ensures.room;
     }

@@ -24,9 +24,9 @@ returns-then-k-names c =
 pub returns-else-k-names : goal.returns-else-k-names
 returns-else-k-names c =
     let e = behind_placed c.args.names.now c.args.atoms.now c.args.k c.args.case.row (shape_of c.args.case) c.if-k-names.false in
-    let a = c.at-stage.ensures in
+    let a = c.at_stage.ensures in
     record {
       piled = subst (λ l. LaidAs c.args.names.now c.args.atoms.now l (entries c.args.pile.now) (entries c.put.new.pile)) (sym e)
-          (laid_one c.args.names.now c.args.atoms.now c.at-stage.result (Adding 0) c.args.case.row (shape_of c.args.case) (entries c.args.pile.now) (entries c.put.new.pile) a.stage a.row a.shape c.put.ensures.piled);
+          (laid_one c.args.names.now c.args.atoms.now c.at_stage.result (Adding 0) c.args.case.row (shape_of c.args.case) (entries c.args.pile.now) (entries c.put.new.pile) a.stage a.row a.shape c.put.ensures.piled);
       room = c.put.ensures.room;
     }

@@ -9,5 +9,5 @@ use Rattle.cases.proofs.stepping.allocate.Goals as goal
 
 pub put-requires : goal.put-requires
 put-requires c =
-    let n = laid_length [] [] (gather c.args.case.nodes (new_at c.args.x c.args.case.row (shape_of c.args.case))) (entries c.args.pile.now) (entries c.new-at-nodes.new.pile) (c.new-at-nodes.ensures.piled [] []) in
-    let r = c.new-at-nodes.ensures.room in let q = c.requires.room in omega arith
+    let n = laid_length [] [] (gather c.args.case.nodes (new_at c.args.x c.args.case.row (shape_of c.args.case))) (entries c.args.pile.now) (entries c.new_at_nodes.new.pile) (c.new_at_nodes.ensures.piled [] []) in
+    let r = c.new_at_nodes.ensures.room in let q = c.requires.room in omega arith

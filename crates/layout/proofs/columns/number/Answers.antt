@@ -9,6 +9,6 @@ use Rattle.std.proofs.lemmas.Bool.Decides.{Decides-eqb}
 
 pub returns-else-eq : goal.returns-else-eq
 returns-else-eq c =
-    no_number c.args.word.now c.as-slice.result.now
-    (c.as-slice.ensures ∙ (c.column-written.ensures ∙ ap column_of c.value-n.ensures))
+    no_number c.args.word.now c.as_slice.result.now
+    (c.as_slice.ensures ∙ (c.column-written.ensures ∙ ap column_of c.value-n.ensures))
     (λ e. both_ways c.eq.result c.if-eq.false ((slice_eq-Decides Decides-eqb _ _ _ c.eq.ensures).1 e))

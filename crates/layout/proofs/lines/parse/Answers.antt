@@ -7,14 +7,14 @@ pub returns-else-bytes-eq10 : goal.returns-else-bytes-eq10
 returns-else-bytes-eq10 c =
     numbers_absent c.args.bytes.now
     (record {
-      kind = c.in-ok-kind.kind;
+      kind = c.in_ok-kind.kind;
       operands = record {
-        first = c.in-ok-first.first;
-        second = c.in-ok-second.second;
-        third = c.in-ok-third.third;
-        fourth = c.in-ok-fourth.fourth;
-        fifth = c.in-ok-fifth.fifth;
-        sixth = c.in-ok-sixth.sixth;
+        first = c.in_ok-first.first;
+        second = c.in_ok-second.second;
+        third = c.in_ok-third.third;
+        fourth = c.in_ok-fourth.fourth;
+        fifth = c.in_ok-fifth.fifth;
+        sixth = c.in_ok-sixth.sixth;
       };
     })
     (record {

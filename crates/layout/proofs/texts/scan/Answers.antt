@@ -8,15 +8,15 @@ use Rattle.layout.proofs.TextsExact.{one_line, broken_line, good_length, bad_len
 use Rattle.layout.proofs.TextsWritten.{texts_written, texts_refused}
 use Rattle.layout.proofs.texts.scan.Goals as goal
 
-pub returns-in-default : goal.returns-in-default
-returns-in-default c =
+pub returns-in_default : goal.returns-in_default
+returns-in_default c =
     let t = c.args.text.now in
     let k = c.loop-k.k in
     let g : bad_length (length t) ≡ false = grind (arith, nat_tests) in
     let d = good_length t g
     ∙ (broken_line t (length t / 29) k (take k c.loop-k.lines) c.loop-k.invariant.1
-    (sym (ap numbers_in (part_is t k)) ∙ (sym c.parse.ensures ∙ c.in-default.is)) c.loop-k-test.true
-    ∙ ap Err (rw add-one at (sym c.at-in-default.ensures))) in
+    (sym (ap numbers_in (part_is t k)) ∙ (sym c.parse.ensures ∙ c.in_default.is)) c.loop-k-test.true
+    ∙ ap Err (rw add-one at (sym c.at-in_default.ensures))) in
     record { defined = d; written = texts_refused t _ d }
 
 pub loop-k-preserved : goal.loop-k-preserved
@@ -31,8 +31,8 @@ loop-k-preserved c =
           (sym (ap numbers_in (part_is t k)) ∙ (sym c.parse.ensures ∙ c.in-Some.is))),
     )
 
-pub returns-then-is-empty : goal.returns-then-is-empty
-returns-then-is-empty c =
+pub returns-then-is_empty : goal.returns-then-is_empty
+returns-then-is_empty c =
     let t = c.args.text.now in
     let b : bad_length (length t) ≡ true = search rules in
     let d = bad_length_lem t b ∙ ap Err (sym c.at.ensures) in

@@ -13,8 +13,8 @@ use Rattle.search.specs.Programs.{commands_in, SmallRows, SmallList, Stepped, Cl
 use Rattle.search.proofs.SheetsRead.{rows_small, list_small, commands_back, length-laid, step_smalls}
 use Rattle.search.proofs.deciding.compile.Goals as goal
 
-pub closings-of-closings-requires : goal.closings-of-closings-requires
-closings-of-closings-requires c =
+pub closings_of-closings-requires : goal.closings_of-closings-requires
+closings_of-closings-requires c =
     let R = routine_of c.args.sheet.now in let F = sheet_formed R c.args.sheet.now.formed in
     record {
       few = c.rows-rows.ensures.few;
@@ -23,13 +23,13 @@ closings-of-closings-requires c =
       after = subst SmallList (sym c.after.ensures) (list_small R.after F.after_few F.after_atoms);
     }
 
-pub needed-names-needed-requires : goal.needed-names-needed-requires
-needed-names-needed-requires c =
+pub needed_names-needed-requires : goal.needed_names-needed-requires
+needed_names-needed-requires c =
     let R = routine_of c.args.sheet.now in let F = sheet_formed R c.args.sheet.now.formed in
     record {
       rows = c.rows-rows.ensures.few;
-      few = λ i q. (c.closings-of-closings.ensures i q).small.few;
-      small = step_smalls R F c.steps-of-steps.result (subst (λ l. Stepped l c.steps-of-steps.result) (ap commands_in c.rows-rows.ensures.rows ∙ commands_back R.rows) c.steps-of-steps.ensures);
+      few = λ i q. (c.closings_of-closings.ensures i q).small.few;
+      small = step_smalls R F c.steps_of-steps.result (subst (λ l. Stepped l c.steps_of-steps.result) (ap commands_in c.rows-rows.ensures.rows ∙ commands_back R.rows) c.steps_of-steps.ensures);
     }
 
 pub returns : goal.returns
@@ -45,10 +45,10 @@ returns c =
         closings_size = search rules;
         needed_size = search rules;
         contracts = c.requires;
-        stepped = subst (λ l. Stepped l c.steps-of-steps.result) e c.steps-of-steps.ensures;
-        closed = subst (λ l. Closed (callee_in c.args.contracts.now) l R.rows c.closings-of-closings.result) a
-            (subst (λ l. Closed (callee_in c.args.contracts.now) (list_in c.after.result.now) l c.closings-of-closings.result) e c.closings-of-closings.ensures);
-        known = subst (λ k. AllKnown c.steps-of-steps.result c.closings-of-closings.result k c.needed-names-needed.result) n c.needed-names-needed.ensures;
+        stepped = subst (λ l. Stepped l c.steps_of-steps.result) e c.steps_of-steps.ensures;
+        closed = subst (λ l. Closed (callee_in c.args.contracts.now) l R.rows c.closings_of-closings.result) a
+            (subst (λ l. Closed (callee_in c.args.contracts.now) (list_in c.after.result.now) l c.closings_of-closings.result) e c.closings_of-closings.ensures);
+        known = subst (λ k. AllKnown c.steps_of-steps.result c.closings_of-closings.result k c.needed_names-needed.result) n c.needed_names-needed.ensures;
       };
       sheet = refl;
       contracts = refl;

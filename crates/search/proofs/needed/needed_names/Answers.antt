@@ -8,7 +8,7 @@ pub loop-name-init : goal.loop-name-init
 loop-name-init c = fill_none 9 (λ n t. Known n c.args.steps.now c.args.lists.now c.args.count 0 t) (replicate 42 true) []
 
 pub loop-name-preserved : goal.loop-name-preserved
-loop-name-preserved c = fill_more 9 (λ n t. Known n c.args.steps.now c.args.lists.now c.args.count 0 t) (replicate 42 true) [] c.loop-name.«name» c.loop-name.tables c.needed-for.result c.loop-name-test.true c.needed-for.ensures c.loop-name.invariant
+loop-name-preserved c = fill_more 9 (λ n t. Known n c.args.steps.now c.args.lists.now c.args.count 0 t) (replicate 42 true) [] c.loop-name.«name» c.loop-name.tables c.needed_for.result c.loop-name-test.true c.needed_for.ensures c.loop-name.invariant
 
 pub returns : goal.returns
 returns c n q = c.loop-name.invariant.early n (let t = c.loop-name-test.false in omega arith)

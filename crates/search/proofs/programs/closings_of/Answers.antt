@@ -15,9 +15,9 @@ loop-i-init c = fill_none 41 (Serves (callee_in c.args.contracts.now) (list_in c
 pub loop-i-preserved : goal.loop-i-preserved
 loop-i-preserved c =
     let e = command_at c.args.rows.now c.loop-i.i _ c.loop-i-test.true in
-    fill_more 41 (Serves (callee_in c.args.contracts.now) (list_in c.args.after.now) (commands_in c.args.rows.now)) c.of-lists.result no_assertion c.loop-i.i c.loop-i.lists c.closing-of.result
+    fill_more 41 (Serves (callee_in c.args.contracts.now) (list_in c.args.after.now) (commands_in c.args.rows.now)) c.of-lists.result no_assertion c.loop-i.i c.loop-i.lists c.closing_of.result
     (let p = c.requires.few in let q = c.loop-i-test.true in omega arith)
-    (record { closes = λ l f. c.closing-of.ensures.closes l (ap (closing (callee_in c.args.contracts.now) (list_in c.args.after.now)) e ∙ f); small = c.closing-of.ensures.small }) c.loop-i.invariant
+    (record { closes = λ l f. c.closing_of.ensures.closes l (ap (closing (callee_in c.args.contracts.now) (list_in c.args.after.now)) e ∙ f); small = c.closing_of.ensures.small }) c.loop-i.invariant
 
 pub returns : goal.returns
 returns c i q =

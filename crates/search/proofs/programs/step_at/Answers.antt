@@ -8,5 +8,5 @@ use Rattle.search.proofs.programs.step_at.Goals as goal
 
 pub returns : goal.returns
 returns c rows S =
-    let q = c.requires in let e = c.index-of.ensures in let n = c.told-steps in
-    same_entry c.args.steps.now c.index-of.result (Set 0 0) Close (omega arith) ∙ (S c.index-of.result (omega arith) ∙ ap (λ i. step_of (get_or rows i done)) e)
+    let q = c.requires in let e = c.index_of.ensures in let n = c.told-steps in
+    same_entry c.args.steps.now c.index_of.result (Set 0 0) Close (omega arith) ∙ (S c.index_of.result (omega arith) ∙ ap (λ i. step_of (get_or rows i done)) e)

@@ -7,6 +7,6 @@ pub returns : goal.returns
 returns c =
     let links =
     after_swap_lem (sym c.from-first.ensures) (sym c.from-second.ensures)
-    c.in-ok-take.ensures.answer c.in-ok-take-2.ensures.answer
-    c.in-ok-write.ensures.answer c.in-ok-swap-links.ensures.answer in
+    c.in_ok-take.ensures.answer c.in_ok-take-2.ensures.answer
+    c.in_ok-write.ensures.answer c.in_ok-swap_links.ensures.answer in
     (search rules, search rules)

@@ -22,4 +22,4 @@ loop-atom-preserved c =
     )
 
 pub returns : goal.returns
-returns c = c.none-left.ensures ∙ cover_end c.args.self.now.nodes (shape_of c.args.self.now).name c.args.atoms.now c.loop-atom.atom-index (edges_of c.loop-atom.edges) _ c.loop-atom-test.false c.loop-atom.invariant.1
+returns c = c.none_left.ensures ∙ cover_end c.args.self.now.nodes (shape_of c.args.self.now).name c.args.atoms.now c.loop-atom.atom-index (edges_of c.loop-atom.edges) _ c.loop-atom-test.false c.loop-atom.invariant.1

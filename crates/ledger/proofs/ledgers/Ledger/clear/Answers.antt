@@ -4,8 +4,8 @@ use Rattle.ledger.proofs.Usable.{kept_without, meant-without}
 use Rattle.ledger.proofs.ledgers.Ledger.clear.Goals as goal
 use Rattle.ledger.specs.Records.{unused}
 
-pub invariant-of-self : goal.invariant-of-self
-invariant-of-self c = (kept_without c.args.self.now.records.now c.args.i 0 c.args.self.now.kept c.requires, (c.args.self.now.low, (c.args.self.now.high, tt)))
+pub invariant_of-self : goal.invariant_of-self
+invariant_of-self c = (kept_without c.args.self.now.records.now c.args.i 0 c.args.self.now.kept c.requires, (c.args.self.now.low, (c.args.self.now.high, tt)))
 
 pub returns : goal.returns
 returns c =

@@ -17,4 +17,4 @@ pub returns : goal.returns
 returns c =
     let rs = c.args.self.now.records.now in
     let fine = c.args.self.now.kept in
-    record { found = found rs c.args.address c.cells-in-n.result fine (find_none rs c.cells-in-n.result c.args.address c.cells-in-n.ensures (omega arith)); mirrors = mirrors rs fine }
+    record { found = found rs c.args.address c.cells_in-n.result fine (find_none rs c.cells_in-n.result c.args.address c.cells_in-n.ensures (omega arith)); mirrors = mirrors rs fine }

@@ -15,7 +15,7 @@ returns c =
       high = high;
       dead = c.dead_from.ensures.dead high;
       between = λ k low most way. ⊎_elim
-          (λ (lt : c.args.self.now.last < k). c.dead-from-a.ensures.live k (omega arith) (omega arith))
+          (λ (lt : c.args.self.now.last < k). c.dead_from-a.ensures.live k (omega arith) (omega arith))
           (λ (ge : k ≤ c.args.self.now.last). c.dead_from.ensures.live k low (grind (arith, nat_tests)))
           (cases_lt c.args.self.now.last k);
     }

@@ -4,5 +4,5 @@ use Rattle.ledger.proofs.Usable.{cleared_sound}
 use Rattle.ledger.proofs.ledgers.Ledger.over.Goals as goal
 use Rattle.ledger.specs.Records.{sound, usable}
 
-pub invariant-of-result : goal.invariant-of-result
-invariant-of-result c = (ap (λ rs. sound (usable rs)) c.prepare.ensures ∙ cleared_sound c.args.records.now, (omega arith, (omega arith, tt)))
+pub invariant_of-result : goal.invariant_of-result
+invariant_of-result c = (ap (λ rs. sound (usable rs)) c.prepare.ensures ∙ cleared_sound c.args.records.now, (omega arith, (omega arith, tt)))

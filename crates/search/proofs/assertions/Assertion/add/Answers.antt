@@ -10,9 +10,9 @@ loop-i-preserved c =
     let q : c.loop-i.i < length c.args.list.now.atoms = search rules in
     let e = renamed-more (given_by c.args.naming.now) c.args.list.now.atoms c.loop-i.i _ q in
     let a = c.push.ensures.more in let b = c.push.ensures.count in let n = c.loop-i.invariant.1 in (
-      a ∙ (ap (λ l. l ++ (c.read-atom.result ∷ [])) c.loop-i.invariant.0
-          ∙ (append_assoc (assertion_in c.args.self.now) (renamed (given_by c.args.naming.now) (take c.loop-i.i c.args.list.now.atoms)) (c.read-atom.result ∷ [])
-          ∙ (ap (λ x. assertion_in c.args.self.now ++ (renamed (given_by c.args.naming.now) (take c.loop-i.i c.args.list.now.atoms) ++ (x ∷ []))) c.read-atom.ensures
+      a ∙ (ap (λ l. l ++ (c.read_atom.result ∷ [])) c.loop-i.invariant.0
+          ∙ (append_assoc (assertion_in c.args.self.now) (renamed (given_by c.args.naming.now) (take c.loop-i.i c.args.list.now.atoms)) (c.read_atom.result ∷ [])
+          ∙ (ap (λ x. assertion_in c.args.self.now ++ (renamed (given_by c.args.naming.now) (take c.loop-i.i c.args.list.now.atoms) ++ (x ∷ []))) c.read_atom.ensures
           ∙ ap (λ x. assertion_in c.args.self.now ++ x) (sym e)))),
       omega arith,
     )

@@ -2,7 +2,7 @@
 use Rattle.std.proofs.Common.{◌≡◌, ◌<◌, ◌≤◌, [], ◌∷◌, length, sym, refl, ap, ◌∙◌, subst, rules}
 use Rattle.heap.specs.Piles.{capacity, entries}
 use Rattle.heap.proofs.Contents.{length-entries}
-use Rattle.pieces.specs.ModelBounds.{Stacked, weight_from_lem}
+use Rattle.pieces.specs.ModelBounds.{Stacked, weight_from}
 use Rattle.pieces.specs.ModelStages.{opened}
 use Rattle.cases.specs.Items.{item_in, items_in}
 use Rattle.search.specs.Searches.{routine_in, FoundIn, work_left, opening_of}
@@ -14,8 +14,8 @@ loop-case-init c =
     let R = routine_in c.args.self.now in let ns = c.args.names.now in let ats = c.args.atoms.now in
     let o = c.opening.ensures in
     let e = opening_items ns ats c.args.row c.opening.result (entries c.args.pile.now) (entries c.put.new.pile) o.shape o.row o.stage c.put.ensures.piled c.requires.none in
-    let s = opening_stacked (weight_from_lem R.rows) ns ats c.args.row c.requires.names.few c.requires.light (capacity c.put.new.pile) c.requires.apart c.requires.low (subst (λ n. 192 ≤ n) (sym c.put.ensures.room) c.requires.room) in (
-      subst (Stacked (weight_from_lem R.rows) (capacity c.put.new.pile)) (sym e) s,
+    let s = opening_stacked (weight_from R.rows) ns ats c.args.row c.requires.names.few c.requires.light (capacity c.put.new.pile) c.requires.apart c.requires.low (subst (λ n. 192 ≤ n) (sym c.put.ensures.room) c.requires.room) in (
+      subst (Stacked (weight_from R.rows) (capacity c.put.new.pile)) (sym e) s,
       (λ start T. subst (FoundIn c.args.self.now start c.args.before) (sym e) T),
       refl,
     )
@@ -29,8 +29,8 @@ turn-found-requires c =
       names = c.requires.names;
       atoms = c.requires.atoms;
       few = c.requires.few;
-      stacked = subst (λ n. Stacked (weight_from_lem R.rows) n (item_in ns ats c.in-Some.case ∷ items_in ns ats (entries c.pop.new.self))) (sym r)
-          (subst (Stacked (weight_from_lem R.rows) (capacity c.loop-case.pile)) (ap (items_in ns ats) t) c.loop-case.invariant.0);
+      stacked = subst (λ n. Stacked (weight_from R.rows) n (item_in ns ats c.in-Some.case ∷ items_in ns ats (entries c.pop.new.self))) (sym r)
+          (subst (Stacked (weight_from R.rows) (capacity c.loop-case.pile)) (ap (items_in ns ats) t) c.loop-case.invariant.0);
     }
 
 pub loop-case-preserved : goal.loop-case-preserved
@@ -51,11 +51,11 @@ loop-case-smaller c =
 pub returns : goal.returns
 returns c =
     let ns = c.args.names.now in let ats = c.args.atoms.now in
-    let s = c.in-default.ensures.popped in
+    let s = c.in_default.ensures.popped in
     let a = no_entries (entries c.loop-case.pile) (length-entries c.loop-case.pile ∙ s.empty) in
     let b = no_entries (entries c.pop.new.self) (length-entries c.pop.new.self ∙ s.count ∙ s.empty) in
     record {
       found = λ start T. subst (FoundIn c.args.self.now start c.loop-case.found) (ap (items_in ns ats) a) (c.loop-case.invariant.1 start T);
       none = b;
-      room = c.in-default.ensures.room ∙ c.loop-case.invariant.2 ∙ c.put.ensures.room;
+      room = c.in_default.ensures.room ∙ c.loop-case.invariant.2 ∙ c.put.ensures.room;
     }

@@ -9,5 +9,5 @@ use Rattle.search.proofs.searching.Program.step.Goals as goal
 
 pub returns : goal.returns
 returns c =
-    let q = c.requires.low in let e = c.index-of.ensures in let n = c.requires.compiled.steps_size in
-    same_entry c.args.self.now.steps c.index-of.result (Set 0 0) Close (omega arith) ∙ (c.requires.compiled.stepped c.index-of.result (omega arith) ∙ ap (λ i. step_of (get_or (routine_in c.args.self.now).rows i done)) e)
+    let q = c.requires.low in let e = c.index_of.ensures in let n = c.requires.compiled.steps_size in
+    same_entry c.args.self.now.steps c.index_of.result (Set 0 0) Close (omega arith) ∙ (c.requires.compiled.stepped c.index_of.result (omega arith) ∙ ap (λ i. step_of (get_or (routine_in c.args.self.now).rows i done)) e)

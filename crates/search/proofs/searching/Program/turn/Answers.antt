@@ -2,7 +2,7 @@
 use Rattle.std.proofs.Common.{◌≡◌, ◌+◌, ◌≤◌, length, sym, refl, ap, ◌∙◌, subst, rules}
 use Rattle.heap.specs.Piles.{capacity, entries}
 use Rattle.sheet.specs.Flow.{row_at}
-use Rattle.pieces.specs.ModelBounds.{Stacked, weight_from_lem}
+use Rattle.pieces.specs.ModelBounds.{Stacked, weight_from}
 use Rattle.cases.specs.Items.{row_of, items_in}
 use Rattle.cases.specs.Steps.{step_of, SmallStep}
 use Rattle.search.specs.Searches.{routine_in, callee_of}
@@ -29,7 +29,7 @@ returns c =
     let was = entries c.args.pile.now in let left = entries c.expand.new.pile in let cap = capacity c.args.pile.now in
     let L = c.expand.ensures.piled in
     record {
-      stacked = subst (λ n. Stacked (weight_from_lem R.rows) n (items_in ns ats left)) (sym c.expand.ensures.room) (stacked_on R F ns ats cap k c.step-step.result e was left S L);
+      stacked = subst (λ n. Stacked (weight_from R.rows) n (items_in ns ats left)) (sym c.expand.ensures.room) (stacked_on R F ns ats cap k c.step-step.result e was left S L);
       found = λ start T. searched_on R F ns ats cap k c.step-step.result e was left S L (callee_of c.args.self.now) start c.args.found.dead c.args.found.broken c.note-found.result.dead c.note-found.result.broken
           (c.note-found.ensures.dead ns ats) (c.note-found.ensures.broken ns ats) T;
       less = less_left R F ns ats cap k c.step-step.result e was left S L c.requires.names.few c.requires.few;

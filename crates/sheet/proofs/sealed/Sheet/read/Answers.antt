@@ -9,10 +9,10 @@ use Rattle.sheet.proofs.ReadPromises.{answer_is, filled_is, never_refused, reads
 use Rattle.sheet.proofs.ReadsText.{reads_text}
 use Rattle.sheet.proofs.sealed.Sheet.read.Goals as goal
 
-pub returns-in-err-self : goal.returns-in-err-self
-returns-in-err-self c =
-    let p = err_from_is_err_and c.from-residual.result c.from-residual.ensures.1 in
-    let h = c.in-err-self.ensures in
+pub returns-in_err-self : goal.returns-in_err-self
+returns-in_err-self c =
+    let p = err_from_is_err_and c.from_residual.result c.from_residual.ensures.1 in
+    let h = c.in_err-self.ensures in
     let t = c.args.text.now in
     rw (p.1, p.2)
     (record {
@@ -23,16 +23,16 @@ returns-in-err-self c =
       every = λ R w q. absurd (never_refused t _ R h w q);
     })
 
-pub invariant-of-self : goal.invariant-of-self
-invariant-of-self c =
-    let b = c.in-ok-self.field-0 in
-    let h = c.in-ok-self.ensures in
+pub invariant_of-self : goal.invariant_of-self
+invariant_of-self c =
+    let b = c.in_ok-self.field-0 in
+    let h = c.in_ok-self.ensures in
     sealed (routine_in b) b (reads_text c.args.text.now (routine_in b) h.0).0 h.1
 
 pub returns : goal.returns
 returns c =
-    let b = c.in-ok-self.field-0 in
-    let h = c.in-ok-self.ensures in
+    let b = c.in_ok-self.field-0 in
+    let h = c.in_ok-self.ensures in
     let t = c.args.text.now in
     record {
       answer = answer_is t _ h.0;

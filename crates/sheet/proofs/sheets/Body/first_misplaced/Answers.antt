@@ -6,19 +6,19 @@ use Rattle.sheet.specs.ModelReading.{rows_in}
 use Rattle.sheet.proofs.RowsIn.{length-rows, misplaced_here, misplaced_later}
 use Rattle.sheet.proofs.sheets.Body.first_misplaced.Goals as goal
 
-pub returns-then-is-misplaced : goal.returns-then-is-misplaced
-returns-then-is-misplaced c =
+pub returns-then-is_misplaced : goal.returns-then-is_misplaced
+returns-then-is_misplaced c =
     let b = c.args.self.now in
     let n = length-rows b c.requires in
     let t = c.loop-i-test.true in
-    sym (misplaced_here (rows_in b) c.loop-i.i (omega arith) (sym c.is-misplaced.ensures ∙ c.if-is-misplaced.true)) ∙ c.loop-i.invariant
+    sym (misplaced_here (rows_in b) c.loop-i.i (omega arith) (sym c.is_misplaced.ensures ∙ c.if-is_misplaced.true)) ∙ c.loop-i.invariant
 
 pub loop-i-preserved : goal.loop-i-preserved
 loop-i-preserved c =
     let b = c.args.self.now in
     let n = length-rows b c.requires in
     let t = c.loop-i-test.true in
-    sym (misplaced_later (rows_in b) c.loop-i.i (omega arith) (sym c.is-misplaced.ensures ∙ c.if-is-misplaced.false)) ∙ c.loop-i.invariant
+    sym (misplaced_later (rows_in b) c.loop-i.i (omega arith) (sym c.is_misplaced.ensures ∙ c.if-is_misplaced.false)) ∙ c.loop-i.invariant
 
 pub returns : goal.returns
 returns c =

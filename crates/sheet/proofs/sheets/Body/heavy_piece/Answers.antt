@@ -10,8 +10,8 @@ use Rattle.sheet.proofs.RowsIn.{length-rows, row_in}
 use Rattle.sheet.proofs.WeightsPass.{heavy_here, heavy_later, start_light}
 use Rattle.sheet.proofs.sheets.Body.heavy_piece.Goals as goal
 
-pub returns-then-is-heavy : goal.returns-then-is-heavy
-returns-then-is-heavy c =
+pub returns-then-is_heavy : goal.returns-then-is_heavy
+returns-then-is_heavy c =
     let b = c.args.self.now in
     let n = length-rows b c.requires in
     let t = c.loop-i-test.true in
@@ -19,9 +19,9 @@ returns-then-is-heavy c =
     let w = c.weights-found.ensures.entries in
     sym (start_light (rows_in b) (let z = w 0 in omega arith)
     ∙ (sym c.loop-i.invariant
-    ∙ heavy_here (rows_in b) i c.is-heavy.result (omega arith)
-    (c.is-heavy.ensures ∙ (ap (λ x. opens x && ltb 8 (get_or c.weights-found.result (i + 1) 0)) (row_in b i c.requires (omega arith)) ∙ ap (λ x. opens (get_or (rows_in b) i done) && ltb 8 x) (w (i + 1))))
-    c.if-is-heavy.true))
+    ∙ heavy_here (rows_in b) i c.is_heavy.result (omega arith)
+    (c.is_heavy.ensures ∙ (ap (λ x. opens x && ltb 8 (get_or c.weights-found.result (i + 1) 0)) (row_in b i c.requires (omega arith)) ∙ ap (λ x. opens (get_or (rows_in b) i done) && ltb 8 x) (w (i + 1))))
+    c.if-is_heavy.true))
 
 pub loop-i-preserved : goal.loop-i-preserved
 loop-i-preserved c =
@@ -30,9 +30,9 @@ loop-i-preserved c =
     let t = c.loop-i-test.true in
     let i = c.loop-i.i in
     let w = c.weights-found.ensures.entries in
-    sym (heavy_later (rows_in b) i c.is-heavy.result (omega arith)
-    (c.is-heavy.ensures ∙ (ap (λ x. opens x && ltb 8 (get_or c.weights-found.result (i + 1) 0)) (row_in b i c.requires (omega arith)) ∙ ap (λ x. opens (get_or (rows_in b) i done) && ltb 8 x) (w (i + 1))))
-    c.if-is-heavy.false)
+    sym (heavy_later (rows_in b) i c.is_heavy.result (omega arith)
+    (c.is_heavy.ensures ∙ (ap (λ x. opens x && ltb 8 (get_or c.weights-found.result (i + 1) 0)) (row_in b i c.requires (omega arith)) ∙ ap (λ x. opens (get_or (rows_in b) i done) && ltb 8 x) (w (i + 1))))
+    c.if-is_heavy.false)
     ∙ c.loop-i.invariant
 
 pub returns : goal.returns

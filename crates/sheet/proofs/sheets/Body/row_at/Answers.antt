@@ -7,10 +7,10 @@ use Rattle.sheet.proofs.sheets.Body.row_at.Goals as goal
 
 pub returns-then-index-self : goal.returns-then-index-self
 returns-then-index-self c =
-    row_in c.args.self.now c.saturating-sub-index.result c.requires c.if-index-self.true
-    ∙ ap (λ i. get_or (rows_in c.args.self.now) i done) c.saturating-sub-index.ensures
+    row_in c.args.self.now c.saturating_sub-index.result c.requires c.if-index-self.true
+    ∙ ap (λ i. get_or (rows_in c.args.self.now) i done) c.saturating_sub-index.ensures
 
 pub returns-else-index-self : goal.returns-else-index-self
 returns-else-index-self c =
-    row_behind c.args.self.now c.saturating-sub-index.result c.requires c.if-index-self.false
-    ∙ ap (λ i. get_or (rows_in c.args.self.now) i done) c.saturating-sub-index.ensures
+    row_behind c.args.self.now c.saturating_sub-index.result c.requires c.if-index-self.false
+    ∙ ap (λ i. get_or (rows_in c.args.self.now) i done) c.saturating_sub-index.ensures

@@ -14,8 +14,8 @@ loop-i-init c =
     let n = length-rows b c.requires in
     (refl, passed_none (replicate 41 0) b.count (rows_in b) (omega arith) (zeros 41))
 
-pub weight-of-requires : goal.weight-of-requires
-weight-of-requires c =
+pub weight_of-requires : goal.weight_of-requires
+weight_of-requires c =
     let b = c.args.self.now in
     let n = length-rows b c.requires in
     let t = c.loop-i-test.true in
@@ -34,9 +34,9 @@ loop-i-preserved c =
     let k = c.loop-i.auto.i in
     let l = c.loop-i.invariant.0 in
     let e : i ≡ i - 1 + 1 = omega arith in (
-      length-set c.loop-i.found (i - 1) c.weight-of.result ∙ l,
-      passed_more c.loop-i.found (i - 1) c.weight-of.result (rows_in b) (command_in _) (omega arith) (omega arith)
-          (row_in b (i - 1) c.requires (omega arith)) c.weight-of.ensures
+      length-set c.loop-i.found (i - 1) c.weight_of.result ∙ l,
+      passed_more c.loop-i.found (i - 1) c.weight_of.result (rows_in b) (command_in _) (omega arith) (omega arith)
+          (row_in b (i - 1) c.requires (omega arith)) c.weight_of.ensures
           (subst (λ m. Passed c.loop-i.found m (rows_in b)) e c.loop-i.invariant.1),
     )
 

@@ -7,7 +7,7 @@ use Rattle.store.proofs.Counting.{one_dead}
 
 pub returns-then-a-eq0 : goal.returns-then-a-eq0
 returns-then-a-eq0 c =
-    let none = c.highest-dead-a.ensures.none (omega arith) in
+    let none = c.highest_dead-a.ensures.none (omega arith) in
     record {
       answer = record { full = all_held c.args.self.now.words.now none; fault = c.refuse.ensures; same = refl };
       kinds = refl;
@@ -19,8 +19,8 @@ returns-then-a-eq0 c =
 pub returns : goal.returns
 returns c =
     let ws = c.args.self.now.words.now in
-    let a = c.highest-dead-a.result in
-    let found = c.highest-dead-a.ensures.some (omega arith) in
+    let a = c.highest_dead-a.result in
+    let found = c.highest_dead-a.ensures.some (omega arith) in
     let dead = dead_cell ws a found.dead in
     record {
       answer = record {

@@ -6,7 +6,7 @@ use Rattle.bench.proofs.benches.calls.BenchStore.write.Goals as goal
 
 pub returns : goal.returns
 returns c =
-    let fits = c.in-ok-may-write.ensures in
+    let fits = c.in_ok-may_write.ensures in
     let whole = meant-put c.args.self.now.words.now c.args.address c.args.link (grind (arith, nat_tests)) (grind (arith, nat_tests)) (grind (arith, nat_tests)) in
     record {
       answer = record { live = grind (arith, nat_tests); fits = grind (arith, nat_tests); after = search (rules, whole) };
