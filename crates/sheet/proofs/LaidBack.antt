@@ -62,10 +62,10 @@ sized_laid R h =
     record { few = h; all = omega arith }
 
 -- what a sheet's type promises, of a body that is a well-formed routine laid out
-pub sealed : (R : Routine) (b : Body) → WellFormed R → b ≡ laid R → ∥ WellFormed (routine_in b) ∥₁ × ((b ≡ laid (routine_in b)) × Unit {0})
+pub sealed : (R : Routine) (b : Body) → WellFormed R → b ≡ laid R → ∥ WellFormed (routine_in b) ∥₁ × (b ≡ laid (routine_in b))
 sealed R b w e =
     let s : routine_in b ≡ R = ap routine_in e ∙ routine_back R in
-    (subst (λ S. ∥ WellFormed S ∥₁) (sym s) ∣ w ∣₁, (e ∙ ap laid (sym s), tt))
+    (subst (λ S. ∥ WellFormed S ∥₁) (sym s) ∣ w ∣₁, e ∙ ap laid (sym s))
 
 new_in_place : InPlace new_routine.rows
 new_in_place i l h = let e : 1 ≡ i = omega arith in subst (λ k. misplaced new_routine.rows k ≡ false) e refl

@@ -4,4 +4,6 @@ use Rattle.sheet.proofs.LaidBack.{sealed, new_formed}
 use Rattle.sheet.proofs.sealed.Sheet.new.Goals as goal
 
 pub invariant_of-result : goal.invariant_of-result
-invariant_of-result c = sealed new_routine c.new_body.result new_formed c.new_body.ensures
+invariant_of-result c =
+    let s = sealed new_routine c.new_body.result new_formed c.new_body.ensures in
+    record { formed = s.0; whole = s.1 }

@@ -27,7 +27,8 @@ pub invariant_of-self : goal.invariant_of-self
 invariant_of-self c =
     let b = c.in_ok-self.field-0 in
     let h = c.in_ok-self.ensures in
-    sealed (routine_in b) b (reads_text c.args.text.now (routine_in b) h.0).0 h.1
+    let s = sealed (routine_in b) b (reads_text c.args.text.now (routine_in b) h.0).0 h.1 in
+    record { formed = s.0; whole = s.1 }
 
 pub returns : goal.returns
 returns c =
