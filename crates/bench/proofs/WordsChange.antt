@@ -2,7 +2,7 @@
 use Rattle.std.proofs.Common.{◌≡◌, ℕ, suc, ◌+◌, ◌-◌, ◌<◌, ◌≤◌, Bool, true, false, cond, eqb, List, length, get_or, set, replicate, is_some, Some, None, refl, add-one, arith, length-set}
 use mathlib.Core.Path.{fun_ext}
 use lib.ListN.{length-replicate}
-use Rattle.heap.specs.Heaps.{Empty, put}
+use Rattle.heap.specs.Heaps.{Empty, put, without}
 use Rattle.std.proofs.lemmas.List.{get_or-replicate, get_or-set_same, get_or-set_other}
 use Rattle.std.proofs.lemmas.Bool.Decides.{nat_tests}
 use Rattle.store.proofs.Counting.{all_live}
@@ -15,6 +15,13 @@ cells-put ws a l lo hi lt k = grind (arith, nat_tests, length-set, get_or-set_sa
 -- a link in word a - 1 makes cell a live with that link
 pub meant-put : (ws : List ℕ) (a l : ℕ) → 1 ≤ a → a ≤ size (length ws) → l < 65535 → meant (set ws (a - 1) l) ≡ with_heap (meant ws) (put (cells ws) a l)
 meant-put ws a l lo hi lt = λ i. record { heap = fun_ext (cells-put ws a l lo hi lt) i; top = size (length-set ws (a - 1) l i); capacity = size (length-set ws (a - 1) l i) }
+
+cells-without : (ws : List ℕ) (a : ℕ) → held ws a ≡ true → (k : ℕ) → cells (set ws (a - 1) 65535) k ≡ without (cells ws) a k
+cells-without ws a e k = grind (arith, nat_tests, length-set, get_or-set_same, get_or-set_other)
+
+-- 65,535 in the word of a live cell makes it dead
+pub meant-without : (ws : List ℕ) (a : ℕ) → held ws a ≡ true → meant (set ws (a - 1) 65535) ≡ with_heap (meant ws) (without (cells ws) a)
+meant-without ws a e = λ i. record { heap = fun_ext (cells-without ws a e) i; top = size (length-set ws (a - 1) 65535 i); capacity = size (length-set ws (a - 1) 65535 i) }
 
 -- a cell is live if its word holds a link, and dead if it is 65,535
 pub held_live : (ws : List ℕ) (a : ℕ) → held ws a ≡ true → is_some (cells ws a) ≡ true

@@ -11,9 +11,9 @@ use store::Store;
 
 // The links of two cells, or the fault of the first of them that is not live.
 fn links<S: Store>(store: &mut S, first: u32, second: u32) -> Result<(u16, u16), Fault>
-    ensures answer { MatchResult result (λ p. Linked (meaning store.old) first second p.0 p.1 (meaning store.new)) (λ f. Unswapped (meaning store.old) (kinds store.old) first second f (meaning store.new)) }
-    ensures kinds { kinds store.new ≡ kinds store.old }
-    ensures home { home store.new ≡ home store.old }
+    ensures answer { MatchResult result (λ p. Linked (S.meaning store.old) first second p.0 p.1 (S.meaning store.new)) (λ f. Unswapped (S.meaning store.old) (S.kinds store.old) first second f (S.meaning store.new)) }
+    ensures kinds { S.kinds store.new ≡ S.kinds store.old }
+    ensures home { S.home store.new ≡ S.home store.old }
 {
     let x = store.read(first)?;
     let y = store.read(second)?;
@@ -22,19 +22,19 @@ fn links<S: Store>(store: &mut S, first: u32, second: u32) -> Result<(u16, u16),
 
 // Gives a live cell another link, which is not refused.
 fn relink<S: Store>(store: &mut S, address: u32, link: u16)
-    requires { writable (meaning store.old) address link ≡ true }
-    ensures after { meaning store.new ≡ with_heap (meaning store.old) (put (meaning store.old).heap address link) }
-    ensures kinds { kinds store.new ≡ kinds store.old }
-    ensures home { home store.new ≡ home store.old }
+    requires { writable (S.meaning store.old) address link ≡ true }
+    ensures after { S.meaning store.new ≡ with_heap (S.meaning store.old) (put (S.meaning store.old).heap address link) }
+    ensures kinds { S.kinds store.new ≡ S.kinds store.old }
+    ensures home { S.home store.new ≡ S.home store.old }
 {
     let _ = store.write(address, u32::from(link));
 }
 
 // Two cells change links. Nothing changes if one of them is not live.
 pub fn swap_links<S: Store>(store: &mut S, first: u32, second: u32) -> Result<(), Fault>
-    ensures answer { Swaps (meaning store.old) (kinds store.old) first second result (meaning store.new) }
-    ensures kinds { kinds store.new ≡ kinds store.old }
-    ensures home { home store.new ≡ home store.old }
+    ensures answer { Swaps (S.meaning store.old) (S.kinds store.old) first second result (S.meaning store.new) }
+    ensures kinds { S.kinds store.new ≡ S.kinds store.old }
+    ensures home { S.home store.new ≡ S.home store.old }
 {
     let (x, y) = links(store, first, second)?;
     relink(store, first, y);
@@ -44,10 +44,10 @@ pub fn swap_links<S: Store>(store: &mut S, first: u32, second: u32) -> Result<()
 
 // How many live cells a walk along the links passes, in at most so many steps.
 pub fn follow<S: Store>(store: &mut S, from: u32, most: u32) -> u32
-    ensures value { result ≡ steps (meaning store.old).heap most from }
-    ensures same { meaning store.new ≡ meaning store.old }
-    ensures kinds { kinds store.new ≡ kinds store.old }
-    ensures home { home store.new ≡ home store.old }
+    ensures value { result ≡ steps (S.meaning store.old).heap most from }
+    ensures same { S.meaning store.new ≡ S.meaning store.old }
+    ensures kinds { S.kinds store.new ≡ S.kinds store.old }
+    ensures home { S.home store.new ≡ S.home store.old }
 {
     let mut at = from;
     let mut count = 0;

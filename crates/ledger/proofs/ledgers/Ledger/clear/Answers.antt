@@ -5,7 +5,8 @@ use Rattle.ledger.proofs.ledgers.Ledger.clear.Goals as goal
 use Rattle.ledger.specs.Records.{unused}
 
 pub invariant_of-self : goal.invariant_of-self
-invariant_of-self c = (kept_without c.args.self.now.records.now c.args.i 0 c.args.self.now.kept c.requires, (c.args.self.now.low, (c.args.self.now.high, tt)))
+invariant_of-self c =
+    record { kept = kept_without c.args.self.now.records.now c.args.i 0 c.args.self.now.kept c.requires; low = c.args.self.now.low; high = c.args.self.now.high }
 
 pub returns : goal.returns
 returns c =

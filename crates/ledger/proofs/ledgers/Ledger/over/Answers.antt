@@ -5,4 +5,5 @@ use Rattle.ledger.proofs.ledgers.Ledger.over.Goals as goal
 use Rattle.ledger.specs.Records.{sound, usable}
 
 pub invariant_of-result : goal.invariant_of-result
-invariant_of-result c = (ap (λ rs. sound (usable rs)) c.prepare.ensures ∙ cleared_sound c.args.records.now, (omega arith, (omega arith, tt)))
+invariant_of-result c =
+    record { kept = ap (λ rs. sound (usable rs)) c.prepare.ensures ∙ cleared_sound c.args.records.now; low = omega arith; high = omega arith }

@@ -7,7 +7,11 @@ pub invariant_of-self : goal.invariant_of-self
 invariant_of-self c =
     let rs = c.args.self.now.records.now in
     let ok = from_vacant rs c.args.i c.args.address c.requires.within c.requires.vacant in
-    (kept_put rs c.args.i c.args.address c.args.self.now.kept c.requires.within c.args.link c.requires.low c.requires.high c.requires.link ok, (c.args.self.now.low, (c.args.self.now.high, tt)))
+    record {
+      kept = kept_put rs c.args.i c.args.address c.args.self.now.kept c.requires.within c.args.link c.requires.low c.requires.high c.requires.link ok;
+      low = c.args.self.now.low;
+      high = c.args.self.now.high;
+    }
 
 pub returns : goal.returns
 returns c =
