@@ -1,6 +1,7 @@
 // One task over each make of store: three cells linked into a list, the middle one let go, another taken in its place.
 #![tactic(auto)]
 
+use anyhow::anyhow;
 use bench::Bench;
 use heap::Fault;
 use ledger::{Ledger, Record};
@@ -8,12 +9,11 @@ use store::Store;
 use walk::follow;
 
 // A refusal as an error that says its number and place.
-fn refused(rt: &HostRuntime, fault: Fault) -> anyhow::Result<anyhow::Error> {
+fn refused(fault: Fault) -> anyhow::Error {
     let number = fault.number();
     let place = fault.place;
     let kind = fault.kind;
-    let text = format!(in rt.alloc(); "refused: {number} at {place}, kind {kind}")?;
-    Ok(text.into())
+    anyhow!("refused: {number} at {place}, kind {kind}")
 }
 
 fn taken<S: Store>(rt: &HostRuntime, store: &mut S) -> anyhow::Result<u32> {
@@ -22,7 +22,7 @@ fn taken<S: Store>(rt: &HostRuntime, store: &mut S) -> anyhow::Result<u32> {
             println!(rt; "  take gives {address}")?;
             Ok(u32::from(address))
         }
-        Err(fault) => Err(refused(rt, fault)?),
+        Err(fault) => Err(refused(fault)),
     }
 }
 
@@ -32,7 +32,7 @@ fn linked<S: Store>(rt: &HostRuntime, store: &mut S, from: u32, to: u32) -> anyh
             println!(rt; "  {from} links to {to}")?;
             Ok(())
         }
-        Err(fault) => Err(refused(rt, fault)?),
+        Err(fault) => Err(refused(fault)),
     }
 }
 
@@ -42,7 +42,7 @@ fn freed<S: Store>(rt: &HostRuntime, store: &mut S, address: u32) -> anyhow::Res
             println!(rt; "  {address} is free")?;
             Ok(())
         }
-        Err(fault) => Err(refused(rt, fault)?),
+        Err(fault) => Err(refused(fault)),
     }
 }
 
