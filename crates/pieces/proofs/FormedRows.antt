@@ -110,7 +110,7 @@ module _ (R : Routine) (F : WellFormed R) where
   before_names = list_names (scope_of R R.arguments 0) F.few_variables (let a = F.few_arguments in omega arith) R.before F.before_list.names
 
   pub after_names : All AtomSmall R.after
-  after_names = list_names (scope_of R 1 0) F.few_variables (omega arith) R.after F.after_List.names
+  after_names = list_names (scope_of R 1 0) F.few_variables (omega arith) R.after F.after_list.names
 
   -- rows lead forward
   in_place_at : (i : ℕ) → bad_target rows i (row_at rows i) ≡ false ⊎ (i ≡ 0)

@@ -63,6 +63,6 @@ sheet_formed R w = record {
   row_atoms = λ i k d q. atom_so w (get_or (list_of (get_or R.rows i done)) k d) (λ F. all_at AtomSmall (list_of (get_or R.rows i done)) d k (row_list R F i).1 q);
   before_few = ∥∥₁_elim w le_prop (λ F. F.before_list.few);
   before_atoms = λ k d q. atom_so w (get_or R.before k d) (λ F. all_at AtomSmall R.before d k (before_names R F) q);
-  after_few = ∥∥₁_elim w le_prop (λ F. F.after_List.few);
+  after_few = ∥∥₁_elim w le_prop (λ F. F.after_list.few);
   after_atoms = λ k d q. atom_so w (get_or R.after k d) (λ F. all_at AtomSmall R.after d k (after_names R F) q);
 }

@@ -63,7 +63,9 @@ module _ (R : Routine) (F : Formed R) where
   opening_is callee zero o e = rw (← e) refl
   opening_is callee (suc p) o e =
       let z : eqb (suc p) 0 ≡ false = grind (arith, nat_tests) in
-      rw (z, ← e) (by (get_or R.rows p done))
+      let c = get_or R.rows p done in
+      rw (← e) (subst (λ (b : Bool). behind callee (from 1 R.variables ++ from 7 R.ghosts) (suc (suc p)) c
+          ≡ (elim (list_behind callee c) [ None ↦ None | Some l ↦ Some (opening_of (from 1 (cond b R.arguments R.variables) ++ from 7 R.ghosts) l (suc (suc p))) ])) (sym z) (by c))
     where
       by : (c : Command) → behind callee (from 1 R.variables ++ from 7 R.ghosts) (suc (suc p)) c
           ≡ (elim (list_behind callee c) [ None ↦ None | Some l ↦ Some (opening_of (from 1 R.variables ++ from 7 R.ghosts) l (suc (suc p))) ])

@@ -7,12 +7,12 @@ use Rattle.cases.proofs.Walks.{stopped, died, went_on, inside_set}
 pub returns-then-i-to : goal.returns-then-i-to
 returns-then-i-to c =
     let l = c.loop-step in
-    record { walked = stopped l.edges l.i (c.args.nodes - l.-step) _ c.args.to l.invariant.3 c.if-i-to.true; inside = l.invariant.2 }
+    record { walked = stopped l.edges l.i (c.args.nodes - l._step) _ c.args.to l.invariant.3 c.if-i-to.true; inside = l.invariant.2 }
 
 pub returns-in-Dead : goal.returns-in-Dead
 returns-in-Dead c =
     let l = c.loop-step in
-    record { walked = died l.edges l.i (c.args.nodes - l.-step) _ c.args.to l.invariant.3 c.if-i-to.false (search rules); inside = l.invariant.2 }
+    record { walked = died l.edges l.i (c.args.nodes - l._step) _ c.args.to l.invariant.3 c.if-i-to.false (search rules); inside = l.invariant.2 }
 
 pub loop-step-preserved : goal.loop-step-preserved
 loop-step-preserved c =
@@ -22,5 +22,5 @@ loop-step-preserved c =
       length-set l.edges l.i Dead ∙ n,
       l.invariant.2 l.i c.in-Cell.next l.invariant.1 c.in-Cell.is,
       inside_set c.args.nodes l.edges l.i q l.invariant.2,
-      went_on l.edges l.i c.args.nodes l.-step _ c.args.to c.in-Cell.next q (search rules) l.invariant.3 c.if-i-to.false c.in-Cell.is,
+      went_on l.edges l.i c.args.nodes l._step _ c.args.to c.in-Cell.next q (search rules) l.invariant.3 c.if-i-to.false c.in-Cell.is,
     )

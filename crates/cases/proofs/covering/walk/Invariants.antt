@@ -7,4 +7,4 @@ use Rattle.cases.proofs.covering.walk.Given as goal
 abbrev pub invariant-loop-step : goal.invariant-loop-step
 invariant-loop-step l =
     (length l.edges ≡ 17) × (l.i < l.nodes) × Inside l.nodes (edges_of l.edges)
-    × (walk (l.nodes - l.-step) (edges_of l.edges) l.i l.to ≡ walk l.nodes (edges_of l.initial.edges) l.initial.i l.to)
+    × (walk (l.nodes - l._step) (edges_of l.edges) l.i l.to ≡ walk l.nodes (edges_of l.initial.edges) l.initial.i l.to)
