@@ -1,5 +1,5 @@
 -- One byte more in a line, and all bytes of a part.
-use Rattle.std.proofs.Common.{◌≡◌, ℕ, ◌+◌, ◌<◌, ◌≤◌, List, [], ◌∷◌, ◌++◌, length, get_or, take, set, sym, refl, ap, ◌∙◌}
+use Rattle.std.proofs.Common.{◌≡◌, ℕ, ◌+◌, ◌<◌, ◌≤◌, List, [], ◌∷◌, ◌++◌, length, get_or, take, set, sym, ap, ◌∙◌}
 use Rattle.std.proofs.lemmas.List.{take_more, take_more_set, append_assoc, take_all}
 
 pub byte_more : (bytes part front : List ℕ) (n i : ℕ) → n < length bytes → i < length part → take n bytes ≡ front ++ take i part

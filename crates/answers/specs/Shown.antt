@@ -1,5 +1,5 @@
 -- Meaning: the bytes of the lines that programs print. Assumes nothing.
-use Rattle.std.specs.Prelude.{ℕ, List, [], ◌∷◌, ◌++◌, length, take, codes}
+use Rattle.std.specs.Prelude.{ℕ, List, [], ◌∷◌, ◌++◌, take}
 use Rattle.layout.specs.Columns.{column_of}
 use Rattle.answers.specs.declared.shown.Shown.{Shown}
 

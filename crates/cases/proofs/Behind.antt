@@ -1,24 +1,23 @@
 -- Proofs: the items behind an item, by indexes and by steps.
-use Rattle.std.proofs.Common.{◌≡◌, ℕ, zero, suc, ◌+◌, ◌<◌, ◌≤◌, Bool, true, false, cond, not, ◌||◌, eqb, ◌⊎◌, List, [], ◌∷◌, ◌++◌, length, get_or, drop, sym, refl, ap, ◌∙◌, subst, inl, inr, append-nil}
+use Rattle.std.proofs.Common.{◌≡◌, ℕ, zero, suc, ◌+◌, ◌<◌, ◌≤◌, cond, not, ◌||◌, eqb, List, [], ◌∷◌, ◌++◌, length, get_or, drop, refl, ap, ◌∙◌, inl, inr}
 use Rattle.std.proofs.lemmas.List.{at_drop_more, at_drop_all}
 use Rattle.std.proofs.lemmas.Bool.{cases_Bool}
 use Rattle.heap.specs.declared.atoms.Atom.{Atom}
 use Rattle.heap.specs.declared.atoms.Atom.TheVariants.{Eq, Neq, Next, Lseg}
 use Rattle.sheet.specs.Routines.{Command, assign, load, store, new, free, jump, branch, cut, call, done}
 use Rattle.sheet.specs.Flow.{row_at}
-use Rattle.pieces.specs.declared.shapes.Edge.TheVariants.{Dead, Cell, Segment}
-use Rattle.pieces.specs.Pieces.{touched}
+use Rattle.pieces.specs.declared.shapes.Edge.TheVariants.{Dead, Cell}
 use Rattle.pieces.specs.ModelChoices.{flat, gather}
 use Rattle.pieces.specs.ModelCover.{is_dead}
 use Rattle.pieces.specs.ModelShapes.{Shape, set_name, add_node, new_at_lem, new_apart, set_edge}
-use Rattle.pieces.specs.ModelCases.{Case, at, nexts, cells, aim, misses}
-use Rattle.pieces.specs.ModelStages.{Stage, placing, adding, linking, running, Item, item, placed, laid, afters}
+use Rattle.pieces.specs.ModelCases.{at, nexts, cells, aim, misses}
+use Rattle.pieces.specs.ModelStages.{Stage, placing, adding, linking, running, Item, item, placed, afters}
 use Rattle.cases.specs.declared.cases.Case as code
 use Rattle.cases.specs.declared.cases.Stage as code_stage
 use Rattle.cases.specs.Items.{shape_of, stage_in, items_in, LaidAs}
 use Rattle.cases.proofs.Laying.{item_is}
-use Rattle.cases.specs.Openings.{placed_at, placings, addings, linkings, afters_by}
-use Rattle.cases.specs.Steps.{step_of, nexts_by, new_at, misses_by, act_of, touching}
+use Rattle.cases.specs.Openings.{placings, addings, afters_by}
+use Rattle.cases.specs.Steps.{step_of, nexts_by, new_at, misses_by}
 
 flat-each : (f : Shape → List Item) (g : ℕ → Shape) (m : ℕ) → flat f (gather m (λ k. g k ∷ [])) ≡ gather m (λ k. f (g k))
 flat-each f g zero = refl

@@ -2,7 +2,7 @@
 use Rattle.std.proofs.Common.{◌≡◌, ℕ, zero, suc, ◌+◌, ◌-◌, ◌<◌, ◌≤◌, Bool, true, false, cond, not, List, [], ◌∷◌, ◌++◌, map, length, sym, refl, ap, ◌∙◌, subst, append_assoc, add-one, arith, length-append}
 use Rattle.std.proofs.lemmas.Bool.Decides.{nat_tests}
 use Rattle.heap.specs.declared.atoms.Atom.{Atom}
-use Rattle.pieces.specs.ModelChoices.{flat, gather}
+use Rattle.pieces.specs.ModelChoices.{gather}
 use Rattle.pieces.specs.ModelShapes.{Shape}
 use Rattle.pieces.specs.ModelStages.{Item, item}
 use Rattle.pieces.specs.ModelStages as model

@@ -1,5 +1,5 @@
 -- Proofs: a loop over a list that stops at the first entry which a test takes: what is left decides.
-use Rattle.std.proofs.Common.{◌≡◌, ℕ, ◌+◌, ◌<◌, ◌≤◌, Bool, true, false, ◌||◌, List, [], ◌∷◌, length, get_or, drop, sym, refl, ap, ◌∙◌}
+use Rattle.std.proofs.Common.{◌≡◌, ℕ, ◌+◌, ◌<◌, ◌≤◌, Bool, true, false, ◌||◌, List, [], ◌∷◌, length, get_or, drop, sym, ap, ◌∙◌}
 use Rattle.std.proofs.lemmas.List.{at_drop_more, at_drop_all}
 
 module _ {A : Type 0} (F : List A → Bool) (test : A → Bool) (more : (x : A) (xs : List A) → F (x ∷ xs) ≡ (test x || F xs)) (none : F [] ≡ false) (xs : List A) (i : ℕ) (left : F (drop i xs) ≡ F xs) where

@@ -1,16 +1,13 @@
 -- Proofs: a name placed at one node after another.
-use Rattle.std.proofs.Common.{◌≡◌, ℕ, suc, ◌+◌, ◌<◌, ◌≤◌, Bool, true, false, cond, List, [], ◌∷◌, ◌++◌, length, get_or, drop, sym, refl, ap, ◌∙◌, subst, append-nil, arith, length-append}
+use Rattle.std.proofs.Common.{◌≡◌, ℕ, ◌+◌, false, cond, List, ◌∷◌, ◌++◌, length, drop, sym, ap, ◌∙◌}
 use Rattle.heap.specs.declared.atoms.Atom.{Atom}
-use Rattle.pieces.specs.declared.shapes.Edge.TheVariants.{Dead}
-use Rattle.pieces.specs.ModelChoices.{gather}
 use Rattle.pieces.specs.ModelOpening.{clash}
-use Rattle.pieces.specs.ModelShapes.{Shape, set_name, add_node}
+use Rattle.pieces.specs.ModelShapes.{Shape}
 use Rattle.pieces.specs.ModelStages.{Item, item, placing, placed}
 use Rattle.cases.specs.declared.cases.Case.{Case}
 use Rattle.cases.specs.declared.cases.Stage.TheVariants.{Placing}
-use Rattle.cases.specs.Items.{shape_of, item_in, items_in, LaidAs}
-use Rattle.cases.specs.Openings.{placed_at, placings}
-use Rattle.cases.proofs.Laying.{item_is, laid_length, room_left, laid_unless, gather_more}
+use Rattle.cases.specs.Items.{shape_of, LaidAs}
+use Rattle.cases.proofs.Laying.{item_is, laid_unless}
 
 module _ (names : List ℕ) (atoms : List Atom) (k r : ℕ) (s : Shape) (case : Case) (u : Shape) (shape : shape_of case ≡ u) (row : case.row ≡ r) (stage : case.stage ≡ Placing (k + 1)) (q q' : List Case)
     (put : q' ≡ cond (clash (drop (k + 1) names) (shape_of case) atoms) q (case ∷ q)) where

@@ -1,5 +1,5 @@
 -- Proofs: a segment split in two leaves the shape sound.
-use Rattle.std.proofs.Common.{◌≡◌, ℕ, ◌<◌, sym, ap, subst}
+use Rattle.std.proofs.Common.{◌≡◌, ℕ, ◌<◌, subst}
 use Rattle.pieces.specs.declared.shapes.Edge.TheVariants.{Segment}
 use Rattle.pieces.specs.ModelChoices.{All_of}
 use Rattle.pieces.specs.ModelShapes.{Shape, SoundShape, short, long}

@@ -1,5 +1,5 @@
 -- Model: rows as the search does them. Assumes nothing.
-use Rattle.std.specs.Prelude.{ℕ, suc, ◌<◌, ◌≤◌, Bool, true, false, cond, not, ◌||◌, List, [], ◌∷◌, ◌++◌, ◌==◌}
+use Rattle.std.specs.Prelude.{ℕ, suc, ◌<◌, ◌≤◌, Bool, true, false, cond, not, ◌||◌, List, [], ◌++◌, ◌==◌}
 use Rattle.sheet.specs.Routines.{Command, assign, load, store, new, free, jump, branch, cut, call, done}
 use Rattle.pieces.specs.declared.shapes.Edge.TheVariants.{Dead, Cell}
 use Rattle.pieces.specs.ModelChoices.{flat, gather}

@@ -1,5 +1,5 @@
 -- Proofs: a live cell is taken from a heap, or laid beside it, as one part of it.
-use Rattle.std.proofs.Common.{◌≡◌, ℕ, ◌≢◌, ◌⊎◌, Some, None, arith}
+use Rattle.std.proofs.Common.{◌≡◌, ℕ, ◌≢◌, Some, None, arith}
 use Rattle.heap.specs.Heaps.{Heap, Split, IsCell, put, without}
 use Rattle.std.proofs.lemmas.Bool.Decides.{nat_tests}
 

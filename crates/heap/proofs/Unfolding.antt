@@ -1,6 +1,6 @@
 -- Proofs: what holds of every list segment.
 use Rattle.std.proofs.Common.{◌≡◌, ℕ, Bool, true, false, eqb, ◌≢◌, ◌⊎◌, None, sym, refl, ◌∙◌, subst, inl, inr}
-use Rattle.heap.specs.Heaps.{Heap, Empty, Split, IsCell, IsLseg, done, more}
+use Rattle.heap.specs.Heaps.{Heap, Empty, Split, IsLseg, done, more}
 use Rattle.heap.specs.Segments.{EndIsNoCell, NilIsNoCell, Starts, Unfolds}
 use Rattle.std.proofs.lemmas.Bool.{eqb-true, eqb-false}
 

@@ -1,5 +1,5 @@
 -- Proofs: what the lent records mean, be their number right or wrong, and what they mean after a call.
-use Rattle.std.proofs.Common.{◌≡◌, ℕ, zero, suc, ◌+◌, ◌-◌, ◌<◌, ◌≤◌, Bool, true, false, cond, not, ◌&&◌, ◌||◌, eqb, leb, ◌⊎◌, List, [], ◌∷◌, length, get_or, drop, set, replicate, is_some, Some, None, sym, refl, ap, ◌∙◌, subst, inl, inr, ⊎_elim, arith, length-set}
+use Rattle.std.proofs.Common.{◌≡◌, ℕ, zero, suc, ◌+◌, ◌<◌, ◌≤◌, Bool, true, false, cond, leb, List, [], length, get_or, drop, set, replicate, is_some, Some, sym, refl, ap, ◌∙◌, ⊎_elim, arith, length-set}
 use mathlib.Core.Path.{fun_ext}
 use Rattle.heap.specs.Heaps.{put, without}
 use Rattle.ledger.proofs.Changes.{cells-put, cells-without, record_cell, records_apart, sound-put, sound-without, Vacant}
@@ -11,7 +11,7 @@ use Rattle.ledger.specs.declared.records.Record.{Record}
 use Rattle.std.proofs.lemmas.List.{at_drop_all, at_drop_more}
 use Rattle.std.proofs.lemmas.Bool.{and_parts, both_ways, cases_eq, cases_lt, leb-true}
 use Rattle.std.proofs.lemmas.Bool.Decides.{nat_tests}
-use Rattle.store.specs.Meanings.{live_below, live_cells, Meaning, with_heap}
+use Rattle.store.specs.Meanings.{live_cells, with_heap}
 
 pub fitting-some : (n i : ℕ) → i < size n → fitting n ≡ true
 fitting-some n i = by_test (fitting n)

@@ -1,11 +1,11 @@
 -- Proof: records that are sound keep the bounds of a store.
-use Rattle.std.specs.Prelude.{◌≡◌, ℕ, zero, suc, ◌+◌, ◌-◌, ◌<◌, ◌≤◌, Bool, true, false, cond, not, ◌&&◌, ◌||◌, List, [], ◌∷◌, length, is_some, Some, None, Option, ◌==◌, ◌≢◌, nat_le, refl}
-use Rattle.std.proofs.Common.{sym, ◌∙◌, ap, ⊎_elim, arith}
+use Rattle.std.specs.Prelude.{◌≡◌, ℕ, ◌≤◌, Bool, true, false, cond, not, ◌&&◌, ◌||◌, List, [], ◌∷◌, length, is_some, Some, None, ◌==◌, ◌≢◌, nat_le, refl}
+use Rattle.std.proofs.Common.{sym, ◌∙◌, ⊎_elim, arith}
 use Rattle.ledger.specs.declared.records.Record.{Record}
 use Rattle.std.proofs.lemmas.Bool.{and_parts, cases_Bool, cond-true, cond-false, eqb-true, leb-true}
 use Rattle.store.specs.Meanings.{Bounded}
 use Rattle.ledger.specs.Counts.{live_usable, used_most}
-use Rattle.ledger.specs.Records.{cells, fitting, meant, proper, size, sound, top_of, usable, used}
+use Rattle.ledger.specs.Records.{cells, fitting, meant, proper, size, sound, top_of, usable}
 
 -- what a cell's record says of it
 pub record Cell (a l : ℕ) : Type 0 where

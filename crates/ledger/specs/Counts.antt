@@ -1,9 +1,9 @@
 -- Proof: as many cells are live as records are in use.
-use Rattle.std.specs.Prelude.{◌≡◌, ℕ, zero, suc, ◌+◌, ◌-◌, ◌<◌, ◌≤◌, Bool, true, false, cond, not, ◌&&◌, ◌||◌, leb, ◌⊎◌, List, [], ◌∷◌, length, is_some, Some, None, ◌==◌, ◌≢◌, nat_le, refl}
-use Rattle.std.proofs.Common.{sym, ◌∙◌, ap, inl, inr, ⊎_elim, arith}
+use Rattle.std.specs.Prelude.{◌≡◌, ℕ, zero, suc, ◌+◌, ◌≤◌, Bool, true, false, cond, not, ◌&&◌, ◌||◌, leb, List, [], ◌∷◌, length, is_some, Some, None, ◌==◌, ◌≢◌, nat_le, refl}
+use Rattle.std.proofs.Common.{sym, ◌∙◌, ap, ⊎_elim, arith}
 use Rattle.heap.specs.Heaps.{Heap}
 use Rattle.ledger.specs.declared.records.Record.{Record}
-use Rattle.std.proofs.lemmas.Bool.{and_left, and_parts, cases_Bool, cases_eq, cond-true, cond-false, eq-eqb, eqb-true, le-leb, leb-true, leb-false, ne_eqb, not-true}
+use Rattle.std.proofs.lemmas.Bool.{and_parts, cases_Bool, cases_eq, cond-false, eq-eqb, le-leb, leb-true, leb-false, ne_eqb, not-true}
 use Rattle.store.specs.Meanings.{live_below}
 use Rattle.ledger.specs.Records.{cells, fitting, proper, sound, top_of, usable, used}
 

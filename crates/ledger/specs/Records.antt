@@ -1,5 +1,5 @@
 -- Meaning: what the records of a ledger mean, and what each call leaves in them. Assumes nothing.
-use Rattle.std.specs.Prelude.{◌≡◌, ℕ, zero, suc, ◌+◌, ◌<◌, ◌≤◌, Bool, true, false, cond, not, ◌&&◌, ◌||◌, List, [], ◌∷◌, length, replicate, is_some, Some, None, ◌==◌, ◌≢◌, nat_le, nat_lt, slice_index_or}
+use Rattle.std.specs.Prelude.{◌≡◌, ℕ, suc, ◌+◌, ◌<◌, ◌≤◌, Bool, true, false, cond, not, ◌&&◌, ◌||◌, List, [], ◌∷◌, length, replicate, is_some, Some, None, ◌==◌, ◌≢◌, nat_le, nat_lt, slice_index_or}
 use Rattle.heap.specs.Heaps.{Heap}
 use Rattle.ledger.specs.declared.records.Record.{Record}
 use Rattle.store.specs.Meanings.{Kinds, live_cells, Meaning}

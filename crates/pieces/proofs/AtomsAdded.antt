@@ -1,14 +1,12 @@
 -- Proofs: the shape of nil alone, and an Eq, a Neq or a Next added to a shape: exact in both directions.
-use Rattle.std.proofs.Common.{◌≡◌, ℕ, Bool, true, false, cond, eqb, ◌≢◌, ◌⊎◌, List, [], ◌∷◌, Some, None, Option, sym, refl, ap, ◌∙◌, subst, inl, inr, arith}
+use Rattle.std.proofs.Common.{◌≡◌, ℕ, true, false, cond, eqb, ◌≢◌, [], ◌∷◌, Some, None, sym, refl, ap, ◌∙◌, inl, inr, arith}
 use Rattle.std.proofs.lemmas.Bool.Decides.{nat_tests}
 use Rattle.std.proofs.lemmas.Bool.{cases_Bool}
 use Rattle.heap.specs.Heaps.{Heap, Split, IsCell, without}
-use Rattle.heap.specs.declared.atoms.Atom.{Atom}
-use Rattle.heap.specs.declared.atoms.Atom.TheVariants.{Eq, Neq, Next, Lseg}
-use Rattle.pieces.specs.declared.shapes.Edge.{Edge}
-use Rattle.pieces.specs.declared.shapes.Edge.TheVariants.{Dead, Cell, Segment}
+use Rattle.heap.specs.declared.atoms.Atom.TheVariants.{Eq, Neq, Next}
+use Rattle.pieces.specs.declared.shapes.Edge.TheVariants.{Dead, Cell}
 use Rattle.pieces.specs.Pieces.{put}
-use Rattle.pieces.specs.ModelShapes.{Sound, Model, Shape, Fits, SoundShape, set_edge}
+use Rattle.pieces.specs.ModelShapes.{Shape, Fits, SoundShape, set_edge}
 use Rattle.pieces.specs.ModelChoices.{SomeOf}
 use Rattle.pieces.specs.ModelCover.{is_dead}
 use Rattle.pieces.specs.ModelOpening.{bare, add}

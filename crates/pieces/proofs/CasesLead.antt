@@ -1,18 +1,13 @@
 -- Proofs: a case leads where the cases behind it lead; and the tests of a case decide what holds of its states.
-use Rattle.std.proofs.Common.{◌≡◌, ℕ, Bool, true, false, cond, not, ◌≢◌, ◌⊎◌, List, [], ◌∷◌, Some, None, Option, sym, refl, ap, ◌∙◌, subst, inl, inr, arith}
+use Rattle.std.proofs.Common.{◌≡◌, ℕ, Bool, true, false, ◌≢◌, ◌⊎◌, List, Some, None, Option, sym, refl, ap, ◌∙◌, subst, inl, inr, arith}
 use Rattle.std.proofs.lemmas.Bool.Decides.{nat_tests}
-use Rattle.std.proofs.lemmas.Bool.{cases_Bool}
-use Rattle.heap.specs.Heaps.{Heap}
-use Rattle.heap.specs.Lists.{Holds}
 use Rattle.heap.specs.declared.atoms.Atom.{Atom}
 use Rattle.sheet.specs.Routines.{Command}
 use Rattle.sheet.specs.Flow.{row_at}
-use Rattle.pieces.specs.declared.shapes.Edge.{Edge}
-use Rattle.pieces.specs.declared.shapes.Edge.TheVariants.{Dead, Cell, Segment}
 use Rattle.pieces.specs.Pieces.{State, Does, Runs, here, on, Contract, touched, closing, Misses, Lives, Breaks, Keeps}
 use Rattle.pieces.specs.ModelChoices.{SomeOf}
 use Rattle.pieces.specs.ModelShapes.{Shape, Fits, SoundShape}
-use Rattle.pieces.specs.ModelCover.{is_dead, covered}
+use Rattle.pieces.specs.ModelCover.{is_dead}
 use Rattle.pieces.specs.ModelCases.{Case, nexts, onward, Of, Leads, dead_at, misses, uncovered, breaks}
 use Rattle.pieces.proofs.ShapeModels.{cases_edge}
 use Rattle.pieces.proofs.ShapeSteps.{dead_node}

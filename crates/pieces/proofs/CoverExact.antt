@@ -1,21 +1,20 @@
-use Rattle.std.proofs.Common.{◌≡◌, ℕ, zero, suc, ◌+◌, ◌-◌, ◌<◌, ◌≤◌, Bool, true, false, cond, not, ◌&&◌, ◌||◌, eqb, ltb, ◌≢◌, ◌⊎◌, List, [], ◌∷◌, ◌++◌, length, Some, None, Option, sym, refl, ap, ◌∙◌, subst, inl, inr, arith}
+use Rattle.std.proofs.Common.{◌≡◌, ℕ, zero, suc, ◌<◌, ◌≤◌, true, false, cond, not, eqb, ◌≢◌, List, [], ◌∷◌, ◌++◌, Some, None, Option, sym, refl, ap, ◌∙◌, subst, inl, inr, arith}
 use mathlib.Core.Path.{fun_ext}
 use Rattle.std.proofs.lemmas.Bool.Decides.{nat_tests}
-use Rattle.std.proofs.lemmas.Bool.{cases_eq, cases_Bool, cases_lt, and_parts, and_from}
-use Rattle.heap.specs.Heaps.{Heap, Empty, Split, IsCell, IsLseg, done as ended, more, without}
+use Rattle.std.proofs.lemmas.Bool.{cases_eq, and_parts}
+use Rattle.heap.specs.Heaps.{Heap, Empty, without}
 use Rattle.pieces.specs.ModelRuns.{minus, Run, stop, step}
-use Rattle.pieces.specs.Pieces.{mem}
 use Rattle.pieces.specs.declared.shapes.Edge.{Edge}
 use Rattle.pieces.specs.declared.shapes.Edge.TheVariants.{Dead, Cell, Segment}
 use Rattle.pieces.specs.Pieces.{put}
-use Rattle.pieces.specs.ModelShapes.{Sound, Model, Shape, Fits, SoundShape, short, long, new_at_lem, new_apart, Allocates, Two, set_edge, set_name, add_node}
+use Rattle.pieces.specs.ModelShapes.{Sound, Model, Two}
 use Rattle.heap.specs.declared.atoms.Atom.{Atom}
 use Rattle.heap.specs.declared.atoms.Atom.TheVariants.{Eq, Neq, Next, Lseg}
 use Rattle.heap.specs.Lists.{Holds}
 use Rattle.pieces.specs.ModelCover.{Takes, is_dead, all_dead, walk, if_cell, covered}
-use Rattle.pieces.proofs.SegmentRuns.{run_join, minus-++, lseg_run, run_lseg, run_dead, minus-in, minus-out, minus-dead, run_agree, two_cells, without-same, run_unique}
+use Rattle.pieces.proofs.SegmentRuns.{run_join, minus-++, lseg_run, run_lseg, minus-out, two_cells, run_unique}
 use Rattle.pieces.proofs.ShapeSteps.{First, first, run_end, dead_node}
-use Rattle.pieces.proofs.ShapeModels.{run_first, val_apart, starts, run_live, cases_edge, apart, off, take, take_as, give, widen, narrow}
+use Rattle.pieces.proofs.ShapeModels.{val_apart, cases_edge, apart, off, take, take_as}
 
 -- the two readings of a list of atoms
 pub holds_takes : (env : ℕ → ℕ) (r : List Atom) (h : Heap) → Holds env r h → Takes env r h

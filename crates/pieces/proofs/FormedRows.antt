@@ -1,5 +1,5 @@
 -- Proofs: what the rows of a well-formed routine are: they lead forward, name names, and weigh at most 8 a piece.
-use Rattle.std.proofs.Common.{◌≡◌, ℕ, zero, suc, ◌+◌, ◌-◌, ◌<◌, ◌≤◌, Bool, true, false, cond, not, ◌&&◌, ◌||◌, eqb, ltb, leb, ◌≢◌, ◌⊎◌, List, [], ◌∷◌, ◌++◌, length, get_or, Some, None, Option, sym, refl, ap, ◌∙◌, subst, inl, inr, arith}
+use Rattle.std.proofs.Common.{◌≡◌, ℕ, zero, suc, ◌+◌, ◌-◌, ◌<◌, ◌≤◌, true, false, not, ◌&&◌, ◌||◌, eqb, ltb, leb, ◌⊎◌, List, [], ◌∷◌, ◌++◌, length, get_or, Some, sym, refl, ap, subst, inl, inr, arith}
 use Rattle.std.specs.List.{AllByRecursion as All}
 use Rattle.std.proofs.lemmas.Bool.Decides.{nat_tests}
 use Rattle.std.proofs.lemmas.List.{get_or_past}
@@ -7,14 +7,12 @@ use Rattle.std.proofs.lemmas.Bool.{cases_eq, cases_Bool, cases_lt, and_parts, or
 use Rattle.heap.specs.declared.atoms.Atom.{Atom}
 use Rattle.heap.specs.declared.atoms.Atom.TheVariants.{Eq, Neq, Next, Lseg}
 use Rattle.sheet.specs.declared.kinds.Scope.{Scope}
-use Rattle.sheet.specs.declared.kinds.Class.{Class}
-use Rattle.sheet.specs.declared.kinds.Class.TheVariants.{Unused, RoutineNumber, VariableCount, ArgumentCount, GhostCount, RowCount, Variable, Value, Target, Named}
+use Rattle.sheet.specs.declared.kinds.Class.TheVariants.{RoutineNumber, Variable, Value, Target, Named}
 use Rattle.sheet.specs.Kinds.{allowed, nameable, fits, classes_of, weight_of}
 use Rattle.sheet.specs.Routines.{Command, assign, load, store, new, free, jump, branch, cut, call, done, Routine, list_of}
 use Rattle.sheet.specs.Written.{command_kind, command_columns, atom_kind, atom_columns}
-use Rattle.sheet.specs.Formed.{WellFormed, RowFormed, ListFormed, scope_of, excepted}
-use Rattle.sheet.specs.Flow.{row_at, is_cut, closes, ends, strays, bad_target, misplaced, Leads, Way, step, InPlace, Heavy, opens, Opens}
-use Rattle.sheet.specs.Reading.{weights}
+use Rattle.sheet.specs.Formed.{WellFormed, RowFormed, scope_of, excepted}
+use Rattle.sheet.specs.Flow.{row_at, is_cut, closes, ends, strays, bad_target, Leads, step, opens, Opens}
 use Rattle.sheet.proofs.WeightsExact.{most, weights_bounded, way_bounded, way_there}
 use Rattle.heap.specs.Lists.{renamed}
 use Rattle.pieces.specs.Pieces.{given, Contract, Opening, opening, behind, from}

@@ -1,14 +1,14 @@
 -- there is always a value that is newly: a heap that a shape describes is finite
-use Rattle.std.proofs.Common.{◌≡◌, ℕ, zero, suc, ◌+◌, ◌<◌, ◌≤◌, Bool, true, false, cond, ◌||◌, eqb, ◌≢◌, ◌⊎◌, List, [], ◌∷◌, Some, None, Option, sym, refl, ap, ◌∙◌, subst, inl, inr, arith}
+use Rattle.std.proofs.Common.{◌≡◌, ℕ, zero, suc, ◌+◌, ◌<◌, ◌≤◌, true, ◌≢◌, List, [], ◌∷◌, None, inl, inr, arith}
 use Rattle.std.proofs.lemmas.Bool.Decides.{nat_tests}
 use Rattle.std.proofs.lemmas.Bool.{cases_eq}
 use Rattle.pieces.specs.declared.shapes.Edge.{Edge}
-use Rattle.pieces.specs.declared.shapes.Edge.TheVariants.{Dead, Cell, Segment}
+use Rattle.pieces.specs.declared.shapes.Edge.TheVariants.{Dead}
 use Rattle.heap.specs.Heaps.{Heap}
 use Rattle.pieces.specs.Pieces.{mem}
 use Rattle.pieces.specs.Pieces.{put}
 use Rattle.pieces.specs.ModelShapes.{Sound, Model}
-use Rattle.pieces.proofs.ShapeModels.{widen, narrow}
+use Rattle.pieces.proofs.ShapeModels.{widen}
 
 total : List ℕ → ℕ
 total [] = 0

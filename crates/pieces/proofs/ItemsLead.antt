@@ -1,23 +1,20 @@
 -- Proofs: the items on the pile stay proper, and an item reaches what the items behind it reach.
-use Rattle.std.proofs.Common.{◌≡◌, ℕ, zero, suc, ◌+◌, ◌<◌, ◌≤◌, Bool, true, false, cond, not, ◌&&◌, ◌||◌, eqb, ltb, ◌≢◌, ◌⊎◌, List, [], ◌∷◌, ◌++◌, sym, refl, ap, ◌∙◌, subst, inl, inr, arith}
+use Rattle.std.proofs.Common.{◌≡◌, ℕ, Bool, true, false, not, ◌||◌, eqb, ◌≢◌, ◌⊎◌, List, [], ◌∷◌, sym, refl, ap, ◌∙◌, subst, inl, inr, arith}
 use Rattle.std.proofs.lemmas.Bool.Decides.{nat_tests}
 use Rattle.std.proofs.lemmas.Bool.{cases_eq, cases_Bool}
-use Rattle.heap.specs.Heaps.{Heap}
-use Rattle.heap.specs.Lists.{Holds}
 use Rattle.heap.specs.declared.atoms.Atom.{Atom}
 use Rattle.heap.specs.declared.atoms.Atom.TheVariants.{Eq, Neq, Next, Lseg}
 use Rattle.sheet.specs.Routines.{Command}
 use Rattle.sheet.specs.Flow.{row_at}
-use Rattle.pieces.specs.declared.shapes.Edge.{Edge}
-use Rattle.pieces.specs.declared.shapes.Edge.TheVariants.{Dead, Cell, Segment}
-use Rattle.pieces.specs.Pieces.{put, mem, State, Runs, here, Opening, Allowed}
-use Rattle.pieces.specs.ModelChoices.{SomeOf, All_of, Has, flat, gather}
-use Rattle.pieces.specs.ModelShapes.{Sound, Shape, Fits, SoundShape, set_edge, set_name, add_node}
+use Rattle.pieces.specs.declared.shapes.Edge.TheVariants.{Dead}
+use Rattle.pieces.specs.Pieces.{mem, State, Runs, here, Opening, Allowed}
+use Rattle.pieces.specs.ModelChoices.{SomeOf, All_of, Has, flat}
+use Rattle.pieces.specs.ModelShapes.{Shape, Fits, SoundShape, set_name, add_node}
 use Rattle.pieces.specs.ModelCover.{is_dead}
 use Rattle.pieces.specs.ModelOpening.{place, add, bare, clash}
-use Rattle.pieces.specs.ModelCases.{Case, onward, hit, Leads, Of}
-use Rattle.pieces.specs.ModelStages.{Stage, placing, adding, linking, running, Item, item, placed, laid, afters, cleared, nothing_live, Says, Saying, Apart, Proper, Kept, opened, item_hits, nexts_of, hits_of, Reaches}
-use Rattle.pieces.proofs.Choices.{some_flat, flat_some, some_map, some_pull, some_map_all, all_flat, all_gather, all_fst}
+use Rattle.pieces.specs.ModelCases.{Case, onward, Leads}
+use Rattle.pieces.specs.ModelStages.{Stage, placing, adding, linking, running, Item, item, placed, laid, afters, cleared, nothing_live, Saying, Apart, Proper, Kept, opened, item_hits, nexts_of, hits_of, Reaches}
+use Rattle.pieces.proofs.Choices.{some_flat, flat_some, some_pull, some_map_all, all_flat, all_gather, all_fst}
 use Rattle.pieces.proofs.RowsExact.{step_sound, sound_name, sound_apart, sound_cell}
 use Rattle.pieces.proofs.CasesLead.{leads_to, leads_from, Decides}
 use Rattle.pieces.proofs.LaySegment.{one_seg_sound}

@@ -1,22 +1,18 @@
 -- Proofs: a segment laid over the nodes of a shape: straight to its end, or to the first node on its way and on from there.
-use Rattle.std.proofs.Common.{◌≡◌, ℕ, zero, suc, ◌+◌, ◌-◌, ◌<◌, ◌≤◌, Bool, true, false, cond, not, ◌&&◌, ◌||◌, eqb, ltb, ◌≢◌, ◌⊎◌, List, [], ◌∷◌, ◌++◌, length, Some, None, Option, sym, refl, ap, ◌∙◌, subst, inl, inr, arith, length-append}
+use Rattle.std.proofs.Common.{◌≡◌, ℕ, ◌<◌, true, false, cond, ◌||◌, ◌≢◌, ◌⊎◌, List, [], ◌∷◌, ◌++◌, None, sym, refl, ap, ◌∙◌, subst, inl, inr, arith}
 use mathlib.Core.Path.{fun_ext}
 use Rattle.std.proofs.lemmas.Bool.Decides.{nat_tests}
-use Rattle.std.proofs.lemmas.Bool.{cases_eq, cases_Bool, cases_lt, and_parts, and_from}
-use Rattle.heap.specs.Heaps.{Heap, Empty, Split, IsCell, IsLseg, done as ended, more, without}
+use Rattle.std.proofs.lemmas.Bool.{cases_eq, cases_Bool}
+use Rattle.heap.specs.Heaps.{Heap, without}
 use Rattle.pieces.specs.ModelRuns.{minus, Run, stop, step}
 use Rattle.pieces.specs.Pieces.{mem}
 use Rattle.pieces.specs.declared.shapes.Edge.{Edge}
-use Rattle.pieces.specs.declared.shapes.Edge.TheVariants.{Dead, Cell, Segment}
+use Rattle.pieces.specs.declared.shapes.Edge.TheVariants.{Dead, Segment}
 use Rattle.pieces.specs.Pieces.{put}
-use Rattle.pieces.specs.ModelShapes.{Sound, Model, Shape, Fits, SoundShape, short, long, new_at_lem, new_apart, Allocates, Two, set_edge, set_name, add_node}
-use Rattle.heap.specs.declared.atoms.Atom.{Atom}
-use Rattle.heap.specs.declared.atoms.Atom.TheVariants.{Eq, Neq, Next, Lseg}
-use Rattle.heap.specs.Lists.{Holds}
-use Rattle.pieces.specs.ModelCover.{Takes, is_dead, all_dead, walk, if_cell, covered}
-use Rattle.pieces.proofs.SegmentRuns.{run_join, minus-++, lseg_run, run_lseg, run_dead, minus-in, minus-out, minus-dead, run_agree, two_cells, without-same, run_unique}
-use Rattle.pieces.proofs.ShapeSteps.{First, first, run_end, dead_node, find_val}
-use Rattle.pieces.proofs.ShapeModels.{run_first, val_apart, starts, run_live, cases_edge, apart, off, take, take_as, give, widen, narrow}
+use Rattle.pieces.specs.ModelShapes.{Sound, Model}
+use Rattle.pieces.proofs.SegmentRuns.{run_join, run_dead, minus-in, minus-out, run_agree}
+use Rattle.pieces.proofs.ShapeSteps.{First, first, dead_node, find_val}
+use Rattle.pieces.proofs.ShapeModels.{run_first, val_apart, run_live, apart, take, give}
 
 -- the first node on a run
 pub record FirstNode (m : ℕ) (val : ℕ → ℕ) (h : Heap) (a f : ℕ) (xs : List ℕ) : Type 0 where

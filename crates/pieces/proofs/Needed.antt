@@ -1,5 +1,5 @@
 -- Proofs: what a run does from a state does not depend on the names that it does not need.
-use Rattle.std.proofs.Common.{◌≡◌, ℕ, suc, Bool, true, false, cond, not, ◌&&◌, ◌||◌, eqb, ltb, ◌≢◌, ◌⊎◌, List, [], ◌∷◌, Some, None, Option, sym, refl, ap, ◌∙◌, subst, inl, inr, arith}
+use Rattle.std.proofs.Common.{◌≡◌, ℕ, suc, Bool, true, false, cond, ◌&&◌, ◌||◌, ◌≢◌, List, [], ◌∷◌, Some, sym, refl, ap, ◌∙◌, subst, inl, inr, arith}
 use Rattle.std.proofs.lemmas.Bool.Decides.{nat_tests}
 use Rattle.std.proofs.lemmas.Bool.{cases_eq, cases_Bool}
 use Rattle.heap.specs.Heaps.{Heap, without, IsCell, IsLseg}
@@ -7,10 +7,9 @@ use Rattle.heap.specs.Lists.{Holds}
 use Rattle.heap.specs.declared.atoms.Atom.{Atom}
 use Rattle.heap.specs.declared.atoms.Atom.TheVariants.{Eq, Neq, Next, Lseg}
 use Rattle.sheet.specs.Routines.{Command, assign, load, store, new, free, jump, branch, cut, call, done}
-use Rattle.sheet.specs.Flow.{row_at, closes}
+use Rattle.sheet.specs.Flow.{row_at}
 use Rattle.pieces.specs.Pieces.{put, mem, State, Does, Runs, here, on, Contract, touched, closing, Opening, Allowed, Lives, Keeps}
-use Rattle.pieces.specs.ModelNeeded.{in_atom, mentions, mentioned, need_by_lem, in_closing, Enough, kept_by, lean}
-use Rattle.pieces.specs.ModelCases.{goes_well, Forward}
+use Rattle.pieces.specs.ModelNeeded.{mentions, mentioned, need_by_lem, in_closing, Enough, kept_by, lean}
 
 -- a list speaks of the names that it mentions
 same_holds : (l : List Atom) (v u : ℕ → ℕ) (h : Heap) → ((n : ℕ) → mentions n l ≡ true → v n ≡ u n) → Holds v l h → Holds u l h

@@ -1,11 +1,10 @@
 -- Proofs: one turn of the search keeps what is found and what is left together, and the pile is worked off.
-use Rattle.std.proofs.Common.{◌≡◌, ℕ, zero, suc, ◌+◌, ◌<◌, ◌≤◌, Bool, true, false, cond, eqb, ltb, ◌≢◌, ◌⊎◌, List, [], ◌∷◌, ◌++◌, Some, None, Option, sym, refl, ap, ◌∙◌, subst, inl, inr, arith}
+use Rattle.std.proofs.Common.{◌≡◌, ℕ, zero, suc, ◌+◌, ◌<◌, ◌≤◌, Bool, ltb, List, [], ◌∷◌, ◌++◌, Some, None, Option, sym, refl, ap, subst, inl, inr, arith}
 use Rattle.std.proofs.lemmas.Bool.Decides.{nat_tests}
 use Rattle.std.proofs.lemmas.Bool.{cases_Bool}
 use Rattle.sheet.specs.Routines.{Command}
-use Rattle.sheet.specs.Flow.{row_at}
 use Rattle.pieces.specs.Pieces.{State, Lowest}
-use Rattle.pieces.specs.ModelChoices.{SomeOf, All_of, Has, lower, lowest}
+use Rattle.pieces.specs.ModelChoices.{All_of, Has, lower, lowest}
 use Rattle.pieces.specs.ModelShapes.{Shape}
 use Rattle.pieces.specs.ModelStages.{Item, Kept, Reaches, nexts_of, hits_of}
 use Rattle.pieces.specs.ModelPiles.{either, total, tree, drain}

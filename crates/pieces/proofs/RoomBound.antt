@@ -1,11 +1,11 @@
 -- Proofs: how many places the pile needs, and that it is worked off.
-use Rattle.std.proofs.Common.{◌≡◌, ℕ, zero, suc, ◌+◌, ◌-◌, ◌<◌, ◌≤◌, Bool, true, false, cond, not, ◌&&◌, ◌||◌, eqb, ltb, ◌≢◌, ◌⊎◌, List, [], ◌∷◌, ◌++◌, length, sym, refl, ap, ◌∙◌, subst, inl, inr, arith, length-append}
+use Rattle.std.proofs.Common.{◌≡◌, ℕ, zero, suc, ◌+◌, ◌<◌, ◌≤◌, true, false, cond, not, ◌||◌, eqb, ltb, ◌≢◌, ◌⊎◌, List, [], ◌∷◌, length, sym, refl, ap, subst, inl, inr, arith, length-append}
 use Rattle.std.proofs.lemmas.Bool.Decides.{nat_tests}
 use Rattle.std.proofs.lemmas.Bool.{cases_eq, cases_Bool}
 use Rattle.pieces.specs.declared.shapes.Edge.{Edge}
 use Rattle.pieces.specs.declared.shapes.Edge.TheVariants.{Dead, Cell, Segment}
 use Rattle.pieces.specs.Pieces.{put}
-use Rattle.pieces.specs.ModelShapes.{Shape, SoundShape, set_edge, set_name, add_node, short, long, new_at_lem, new_apart}
+use Rattle.pieces.specs.ModelShapes.{Shape, set_edge, set_name, add_node, short, long, new_at_lem, new_apart}
 use Rattle.heap.specs.declared.atoms.Atom.{Atom}
 use Rattle.heap.specs.declared.atoms.Atom.TheVariants.{Eq, Neq, Next, Lseg}
 use Rattle.pieces.specs.ModelCover.{is_dead}
@@ -15,8 +15,8 @@ use Rattle.pieces.specs.ModelOpening.{place, add, clash}
 use Rattle.sheet.specs.Routines.{Command, assign, load, store, new, free, jump, branch, cut, call, done}
 use Rattle.sheet.specs.Flow.{row_at, closes}
 use Rattle.pieces.specs.ModelCases.{Case, onward, nexts, cells, cells_by, aim, at, Forward}
-use Rattle.pieces.specs.ModelStages.{Stage, placing, adding, linking, running, Item, item, laid, afters}
-use Rattle.pieces.specs.ModelStages.{Proper, placed}
+use Rattle.pieces.specs.ModelStages.{placing, adding, linking, running, Item, item, laid, afters}
+use Rattle.pieces.specs.ModelStages.{placed}
 use Rattle.pieces.specs.ModelBounds.{spare, tri, for_names, for_rows, WeighsAt, room, RoomHolds, depth, deep, DepthFalls}
 use Rattle.pieces.proofs.ShapeModels.{cases_edge}
 use Rattle.pieces.proofs.Choices.{all_flat, all_gather, all_map}

@@ -1,23 +1,22 @@
 -- Proofs: a row done in a state of a case leads to a state of a case behind it, and each such state comes from one of the case.
-use Rattle.std.proofs.Common.{◌≡◌, ℕ, zero, suc, ◌+◌, ◌<◌, ◌≤◌, Bool, true, false, cond, not, ◌&&◌, ◌||◌, eqb, ltb, ◌≢◌, ◌⊎◌, List, [], ◌∷◌, ◌++◌, length, Some, None, Option, sym, refl, ap, ◌∙◌, subst, inl, inr, arith}
-use mathlib.Core.Path.{fun_ext}
+use Rattle.std.proofs.Common.{◌≡◌, ℕ, suc, ◌<◌, ◌≤◌, true, false, cond, not, ◌||◌, eqb, ◌≢◌, List, [], Some, None, Option, sym, refl, ap, ◌∙◌, inl, inr, arith}
 use Rattle.std.proofs.lemmas.Bool.Decides.{nat_tests}
 use Rattle.std.proofs.lemmas.Bool.{cases_eq, cases_Bool}
 use Rattle.heap.specs.Heaps.{Heap, without}
 use Rattle.pieces.specs.declared.shapes.Edge.{Edge}
 use Rattle.pieces.specs.declared.shapes.Edge.TheVariants.{Dead, Cell, Segment}
 use Rattle.pieces.specs.Pieces.{put}
-use Rattle.pieces.specs.ModelShapes.{Sound, Model, Shape, Fits, SoundShape, short, long, new_at_lem, new_apart, Allocates, set_edge, set_name, add_node}
+use Rattle.pieces.specs.ModelShapes.{Shape, Fits, SoundShape, long, new_at_lem, Allocates, set_edge, set_name, add_node}
 use Rattle.pieces.specs.ModelCover.{is_dead}
-use Rattle.pieces.specs.ModelChoices.{SomeOf, gather}
+use Rattle.pieces.specs.ModelChoices.{SomeOf}
 use Rattle.pieces.specs.ModelChoices.{flat, All_of}
 use Rattle.sheet.specs.Routines.{Command, assign, load, store, new, free, jump, branch, cut, call, done}
 use Rattle.pieces.specs.Pieces.{State, Does}
 use Rattle.pieces.specs.ModelCases.{Case, cells, aim, at, nexts, Of}
 use Rattle.pieces.proofs.ShapeModels.{cases_edge}
 use Rattle.pieces.proofs.CoverExact.{sound_dead}
-use Rattle.pieces.proofs.Choices.{some_left, some_right, some_either, some_gather, gather_some}
-use Rattle.pieces.proofs.Choices.{some_flat, flat_some, flat_some_all, some_map, some_with, some_all, all_flat, all_gather, all_++, some_pull}
+use Rattle.pieces.proofs.Choices.{some_gather, gather_some}
+use Rattle.pieces.proofs.Choices.{some_flat, flat_some_all, some_with, all_flat, all_gather, some_pull}
 use Rattle.pieces.proofs.ShapeSteps.{split_to, from_short, from_long, free_to, free_from, alloc_to, alloc_from_at, alloc_from_apart, copy_to, copy_from, load_to, load_from, store_to, store_from}
 
 pub same_state : (u : State) (r : ℕ) (env : ℕ → ℕ) (h : Heap) → u.row ≡ r → u.env ≡ env → u.heap ≡ h → u ≡ record { row = r; env = env; heap = h }

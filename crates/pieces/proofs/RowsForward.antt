@@ -1,13 +1,12 @@
 -- Proofs: rows lead forward, or to a row that closes.
-use Rattle.std.proofs.Common.{◌≡◌, ℕ, zero, suc, ◌+◌, ◌-◌, ◌<◌, ◌≤◌, Bool, true, false, cond, not, ◌||◌, eqb, ltb, ◌≢◌, ◌⊎◌, List, [], ◌∷◌, ◌++◌, length, get_or, sym, refl, ap, ◌∙◌, subst, inl, inr, arith}
+use Rattle.std.proofs.Common.{◌≡◌, ℕ, suc, ◌-◌, ◌<◌, true, cond, not, ◌||◌, eqb, ltb, ◌⊎◌, List, [], length, refl, inl, inr, arith}
 use Rattle.std.proofs.lemmas.Bool.Decides.{nat_tests}
 use Rattle.std.proofs.lemmas.List.{get_or_past}
 use Rattle.std.proofs.lemmas.Bool.{cases_Bool}
 use Rattle.sheet.specs.Routines.{Command, assign, load, store, new, free, jump, branch, cut, call, done}
 use Rattle.sheet.specs.Flow.{row_at, closes}
-use Rattle.pieces.specs.declared.shapes.Edge.{Edge}
-use Rattle.pieces.specs.declared.shapes.Edge.TheVariants.{Dead, Cell, Segment}
-use Rattle.pieces.specs.ModelChoices.{All_of, flat, gather}
+use Rattle.pieces.specs.declared.shapes.Edge.TheVariants.{Dead, Cell}
+use Rattle.pieces.specs.ModelChoices.{All_of, flat}
 use Rattle.pieces.specs.ModelShapes.{Shape, set_edge, set_name, new_at_lem}
 use Rattle.pieces.specs.ModelCover.{is_dead}
 use Rattle.pieces.specs.ModelCases.{Case, nexts, cells, aim, at, goes_well}

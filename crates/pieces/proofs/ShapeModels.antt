@@ -1,14 +1,13 @@
-use Rattle.std.proofs.Common.{◌≡◌, ℕ, suc, ◌<◌, ◌≤◌, Bool, true, false, cond, ◌||◌, eqb, ◌≢◌, ◌⊎◌, List, [], ◌∷◌, ◌++◌, length, Some, None, Option, sym, refl, ap, ◌∙◌, subst, inl, inr, arith}
-use mathlib.Core.Path.{fun_ext}
+use Rattle.std.proofs.Common.{◌≡◌, ℕ, suc, ◌<◌, true, false, cond, ◌≢◌, ◌⊎◌, List, [], ◌∷◌, Some, None, sym, refl, ap, ◌∙◌, subst, inl, inr, arith}
 use Rattle.std.proofs.lemmas.Bool.Decides.{nat_tests}
 use Rattle.std.proofs.lemmas.Bool.{cases_eq, cases_Bool}
-use Rattle.heap.specs.Heaps.{Heap, Empty, Split, IsCell, IsLseg, done as ended, more, without}
+use Rattle.heap.specs.Heaps.{Heap}
 use Rattle.pieces.specs.ModelRuns.{minus, Run, stop, step}
 use Rattle.pieces.specs.Pieces.{mem}
 use Rattle.pieces.specs.declared.shapes.Edge.{Edge}
 use Rattle.pieces.specs.declared.shapes.Edge.TheVariants.{Dead, Cell, Segment}
 use Rattle.pieces.specs.Pieces.{put}
-use Rattle.pieces.specs.ModelShapes.{Sound, Model, Shape, Fits}
+use Rattle.pieces.specs.ModelShapes.{Sound, Model}
 use Rattle.pieces.proofs.SegmentRuns.{run_dead, minus-in, minus-out, minus-dead, run_agree}
 
 pub cases_edge : (e : Edge) → (e ≡ Dead) ⊎ (((t : ℕ) × (e ≡ Cell t)) ⊎ ((t : ℕ) × (e ≡ Segment t)))

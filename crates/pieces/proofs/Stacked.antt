@@ -1,21 +1,20 @@
 -- Proofs: the pile never runs out: what lies on it has room for all that comes of it.
-use Rattle.std.proofs.Common.{◌≡◌, ℕ, zero, suc, ◌+◌, ◌-◌, ◌<◌, ◌≤◌, Bool, true, false, cond, not, ◌||◌, eqb, ltb, ◌≢◌, ◌⊎◌, List, [], ◌∷◌, ◌++◌, length, sym, refl, ap, ◌∙◌, subst, inl, inr, arith, length-append}
+use Rattle.std.proofs.Common.{◌≡◌, ℕ, zero, suc, ◌+◌, ◌<◌, ◌≤◌, false, cond, not, ◌||◌, eqb, ltb, List, [], ◌∷◌, ◌++◌, length, refl, inl, inr, arith, length-append}
 use Rattle.std.proofs.lemmas.Bool.Decides.{nat_tests}
 use Rattle.std.proofs.lemmas.Bool.{cases_Bool}
 use Rattle.heap.specs.declared.atoms.Atom.{Atom}
 use Rattle.heap.specs.declared.atoms.Atom.TheVariants.{Eq, Neq, Next, Lseg}
 use Rattle.sheet.specs.Routines.{Command, assign, load, store, new, free, jump, branch, cut, call, done}
 use Rattle.sheet.specs.Flow.{row_at, closes}
-use Rattle.pieces.specs.declared.shapes.Edge.{Edge}
-use Rattle.pieces.specs.declared.shapes.Edge.TheVariants.{Dead, Cell, Segment}
-use Rattle.pieces.specs.ModelChoices.{All_of, flat, gather}
-use Rattle.pieces.specs.ModelShapes.{Shape, SoundShape, set_edge, set_name, add_node, short, long, new_at_lem, new_apart}
+use Rattle.pieces.specs.declared.shapes.Edge.TheVariants.{Dead, Cell}
+use Rattle.pieces.specs.ModelChoices.{All_of, flat}
+use Rattle.pieces.specs.ModelShapes.{Shape, set_edge, set_name, new_at_lem}
 use Rattle.pieces.specs.ModelCover.{is_dead}
 use Rattle.pieces.specs.ModelOpening.{place, add, clash}
-use Rattle.pieces.specs.ModelCases.{Case, onward, nexts, cells, cells_by, aim, at, Forward}
-use Rattle.pieces.specs.ModelStages.{Stage, placing, adding, linking, running, Item, item, placed, laid, afters, Proper, Kept, nexts_of}
-use Rattle.pieces.specs.ModelBounds.{for_rows, tri, spare, room, WeighsAt, Narrow, Small, deep, Ready, Stacked}
-use Rattle.pieces.proofs.Choices.{all_flat, all_gather, all_any, all_both, all_map}
+use Rattle.pieces.specs.ModelCases.{Case, onward, nexts, cells, aim, at}
+use Rattle.pieces.specs.ModelStages.{Stage, placing, adding, linking, running, Item, item, placed, laid, afters, Kept, nexts_of}
+use Rattle.pieces.specs.ModelBounds.{for_rows, spare, room, WeighsAt, Narrow, Small, Ready, Stacked}
+use Rattle.pieces.proofs.Choices.{all_flat, all_gather, all_any, all_both}
 use Rattle.pieces.proofs.ShapeModels.{cases_edge}
 use Rattle.pieces.proofs.RowsForward.{past}
 use Rattle.pieces.proofs.RoomBound.{room_holds}

@@ -1,31 +1,30 @@
 -- Proofs: before the rows, an item says what the items behind it say.
-use Rattle.std.proofs.Common.{◌≡◌, ℕ, zero, suc, ◌+◌, ◌<◌, ◌≤◌, Bool, true, false, cond, not, ◌&&◌, ◌||◌, eqb, ltb, ◌≢◌, ◌⊎◌, List, [], ◌∷◌, ◌++◌, Some, None, Option, sym, refl, ap, ◌∙◌, subst, inl, inr, arith}
+use Rattle.std.proofs.Common.{◌≡◌, ℕ, ◌<◌, Bool, true, false, not, ◌||◌, eqb, ◌≢◌, ◌⊎◌, List, [], ◌∷◌, sym, refl, ap, ◌∙◌, subst, inl, inr, arith}
 use mathlib.Core.Path.{fun_ext}
 use Rattle.std.proofs.lemmas.Bool.Decides.{nat_tests}
 use Rattle.std.proofs.lemmas.Bool.{cases_eq, cases_Bool}
-use Rattle.heap.specs.Heaps.{Heap, Empty, Split, IsCell, IsLseg, done as ended, without}
-use Rattle.pieces.specs.ModelRuns.{minus, Run, stop, step}
+use Rattle.heap.specs.Heaps.{Heap, Split, IsLseg, done as ended, without}
+use Rattle.pieces.specs.ModelRuns.{minus, Run}
 use Rattle.pieces.specs.Pieces.{mem}
 use Rattle.pieces.specs.declared.shapes.Edge.{Edge}
-use Rattle.pieces.specs.declared.shapes.Edge.TheVariants.{Dead, Cell, Segment}
+use Rattle.pieces.specs.declared.shapes.Edge.TheVariants.{Dead, Segment}
 use Rattle.pieces.specs.Pieces.{put}
-use Rattle.pieces.specs.ModelShapes.{Sound, Model, Shape, Fits, SoundShape, set_edge, set_name, add_node}
+use Rattle.pieces.specs.ModelShapes.{Model, Shape, Fits, SoundShape, set_name, add_node}
 use Rattle.heap.specs.declared.atoms.Atom.{Atom}
 use Rattle.heap.specs.declared.atoms.Atom.TheVariants.{Eq, Neq, Next, Lseg}
 use Rattle.heap.specs.Lists.{Holds}
-use Rattle.pieces.specs.ModelCover.{is_dead, all_dead}
-use Rattle.pieces.specs.ModelChoices.{SomeOf, gather}
-use Rattle.pieces.specs.ModelChoices.{flat, All_of}
-use Rattle.pieces.specs.ModelOpening.{place, add, bare, clashes, clash}
+use Rattle.pieces.specs.ModelCover.{is_dead}
+use Rattle.pieces.specs.ModelChoices.{SomeOf}
+use Rattle.pieces.specs.ModelChoices.{flat}
+use Rattle.pieces.specs.ModelOpening.{place, add, clashes, clash}
 use Rattle.sheet.specs.Routines.{Command}
-use Rattle.pieces.specs.ModelStages.{Stage, placing, adding, linking, running, Item, item, placed, laid, afters, cleared, nothing_live, Says, Apart, Saying, StagesExactly}
-use Rattle.pieces.specs.ModelStages.{Proper}
+use Rattle.pieces.specs.ModelStages.{placing, adding, linking, running, item, placed, laid, afters, cleared, nothing_live, Says, Saying, StagesExactly}
 use Rattle.pieces.proofs.ShapeModels.{cases_edge, val_apart, run_first, take, widen, narrow}
 use Rattle.pieces.proofs.SegmentRuns.{split_comm, union, split_assoc, lseg_run, run_lseg}
-use Rattle.pieces.proofs.ShapeSteps.{First, first, find_val, run_end}
+use Rattle.pieces.proofs.ShapeSteps.{find_val, run_end}
 use Rattle.pieces.proofs.CoverExact.{nothing, all_dead_from}
 use Rattle.pieces.proofs.LaySegment.{FirstNode, first_node, open_last_lem, with_k, from_k, close_via, dead_on, off_zero, k, apart_k, f, on_xs, run_nonzero}
-use Rattle.pieces.proofs.Choices.{some_left, some_right, some_either, some_gather, gather_some, some_flat, flat_some, some_map, some_pull}
+use Rattle.pieces.proofs.Choices.{some_gather, gather_some, some_flat, flat_some, some_pull}
 use Rattle.pieces.proofs.RowsExact.{sound_name, sound_apart}
 use Rattle.pieces.proofs.AtomsAdded.{eq_to, eq_from, neq_to, neq_from, next_to, next_from}
 

@@ -1,16 +1,12 @@
-use Rattle.std.proofs.Common.{◌≡◌, ℕ, zero, suc, ◌+◌, ◌-◌, ◌<◌, ◌≤◌, Bool, true, false, cond, ◌||◌, eqb, ltb, ◌≢◌, ◌⊎◌, List, [], ◌∷◌, ◌++◌, length, Some, None, Option, sym, refl, ap, ◌∙◌, subst, inl, inr, arith}
-use mathlib.Core.Path.{fun_ext}
+use Rattle.std.proofs.Common.{◌≡◌, ℕ, ◌+◌, ◌-◌, ◌<◌, cond, ltb, ◌≢◌, List, [], ◌∷◌, Some, None, Option, refl, ap, ◌∙◌, inl, inr, arith}
 use Rattle.std.proofs.lemmas.Bool.Decides.{nat_tests}
-use Rattle.std.proofs.lemmas.Bool.{cases_eq, cases_Bool, cases_lt}
-use Rattle.heap.specs.Heaps.{Heap, Empty, Split, IsCell, IsLseg, done as ended, more, without}
-use Rattle.pieces.specs.ModelRuns.{minus, Run, stop, step}
-use Rattle.pieces.specs.Pieces.{mem}
+use Rattle.std.proofs.lemmas.Bool.{cases_lt}
+use Rattle.heap.specs.Heaps.{Heap}
 use Rattle.pieces.specs.declared.shapes.Edge.{Edge}
 use Rattle.pieces.specs.declared.shapes.Edge.TheVariants.{Dead, Cell, Segment}
-use Rattle.pieces.specs.Pieces.{put}
-use Rattle.pieces.specs.ModelShapes.{Sound, Model, Shape, Fits, SoundShape, short, long, new_at_lem, new_apart, Allocates, Two, set_edge, set_name, add_node}
-use Rattle.pieces.proofs.SegmentRuns.{run_dead, minus-in, minus-out, minus-dead, run_agree, two_cells, without-same, run_unique}
-use Rattle.pieces.proofs.ShapeModels.{run_first, val_apart, starts, run_live, cases_edge, apart, off, take, take_as, give, widen, narrow}
+use Rattle.pieces.specs.ModelShapes.{Sound, Model, Two}
+use Rattle.pieces.proofs.SegmentRuns.{two_cells}
+use Rattle.pieces.proofs.ShapeModels.{cases_edge}
 
 -- (6) the canonical model: the node i is at i, and the second cell of its segment at m + i
 abbrev pub low : ℕ → ℕ → Edge → Option ℕ

@@ -1,22 +1,22 @@
 -- Proofs: a search that is worked off gives the verdict of the meaning, and there is only one.
-use Rattle.std.proofs.Common.{◌≡◌, ℕ, zero, suc, ◌+◌, ◌-◌, ◌<◌, ◌≤◌, Bool, true, false, cond, ◌&&◌, ◌||◌, eqb, ltb, ◌≢◌, ◌⊎◌, List, [], ◌∷◌, ◌++◌, length, get_or, Some, None, Option, sym, refl, ap, ◌∙◌, subst, inl, inr, arith}
+use Rattle.std.proofs.Common.{◌≡◌, ℕ, zero, suc, ◌+◌, ◌<◌, ◌≤◌, Bool, false, eqb, ◌⊎◌, List, [], ◌∷◌, ◌++◌, length, Some, None, Option, sym, refl, ap, ◌∙◌, subst, inl, inr, arith}
 use Rattle.std.proofs.lemmas.Bool.Decides.{nat_tests}
 use Rattle.std.proofs.lemmas.List.{get_or_past}
-use Rattle.std.proofs.lemmas.Bool.{cases_eq, cases_Bool, cases_lt}
+use Rattle.std.proofs.lemmas.Bool.{cases_Bool, cases_lt}
 use Rattle.heap.specs.declared.atoms.Atom.{Atom}
 use Rattle.sheet.specs.Routines.{Command, Routine, done}
 use Rattle.sheet.specs.Flow.{row_at}
 use Rattle.pieces.specs.declared.verdicts.Verdict.{Verdict}
 use Rattle.pieces.specs.declared.verdicts.Verdict.TheVariants.{Taken, DeadCell, FalseList}
-use Rattle.pieces.specs.Pieces.{mem, from, State, Runs, Contract, Opening, opening, behind, Allowed, Comes, touched, closing, Misses, Lives, Breaks, Keeps, Right, TouchesDead, ClosesFalse, Lowest, Judged}
-use Rattle.pieces.specs.ModelChoices.{SomeOf, All_of, Has, gather, lowest}
-use Rattle.pieces.specs.ModelStages.{Item, Reaches, opened, Apart, Kept}
+use Rattle.pieces.specs.Pieces.{mem, from, State, Contract, Opening, opening, behind, Comes, touched, closing, Misses, Lives, Breaks, Keeps, Right, TouchesDead, ClosesFalse, Lowest, Judged}
+use Rattle.pieces.specs.ModelChoices.{SomeOf, Has, gather, lowest}
+use Rattle.pieces.specs.ModelStages.{Item, Reaches, Apart}
 use Rattle.pieces.specs.ModelNeeded.{Enough, kept_by, lean}
-use Rattle.pieces.specs.ModelSearch.{Swept, Searched, start_of, start_at, judge}
-use Rattle.pieces.proofs.Choices.{some_gather, gather_some, all_gather}
+use Rattle.pieces.specs.ModelSearch.{Searched, start_of, start_at, judge}
+use Rattle.pieces.proofs.Choices.{some_gather, gather_some}
 use Rattle.pieces.proofs.PileWorked.{none_has, low}
 use Rattle.pieces.proofs.Needed.{with_env, Agree, run_follows, lives_back, keeps_back, bared, bared_allowed, bared_agrees, lean_allowed}
-use Rattle.pieces.proofs.ItemsLead.{opened_to, opened_from, opened_kept}
+use Rattle.pieces.proofs.ItemsLead.{opened_to, opened_from}
 
 -- no piece opens behind the last row
 within : (callee : ℕ → Contract) (R : Routine) (n p : ℕ) (o : Opening) → length R.rows ≤ n → opening callee R p ≡ Some o → p < suc n

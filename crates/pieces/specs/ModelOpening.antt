@@ -1,9 +1,8 @@
 -- Model: how a list of atoms becomes shapes: the names are placed, then the atoms are added. Assumes nothing.
-use Rattle.std.specs.Prelude.{◌≡◌, ℕ, Bool, true, false, cond, not, ◌||◌, List, [], ◌∷◌, ◌==◌}
+use Rattle.std.specs.Prelude.{ℕ, Bool, false, cond, not, ◌||◌, List, [], ◌∷◌, ◌==◌}
 use Rattle.heap.specs.declared.atoms.Atom.{Atom}
 use Rattle.heap.specs.declared.atoms.Atom.TheVariants.{Eq, Neq, Next, Lseg}
-use Rattle.pieces.specs.declared.shapes.Edge.{Edge}
-use Rattle.pieces.specs.declared.shapes.Edge.TheVariants.{Dead, Cell, Segment}
+use Rattle.pieces.specs.declared.shapes.Edge.TheVariants.{Dead, Cell}
 use Rattle.pieces.specs.Pieces.{mem}
 use Rattle.pieces.specs.ModelChoices.{gather}
 use Rattle.pieces.specs.ModelShapes.{Shape, set_edge, set_name, add_node}

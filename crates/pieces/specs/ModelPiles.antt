@@ -1,6 +1,6 @@
 -- Model: a pile of items worked off: what is found and what is still on the pile are together what the first pile has. Assumes nothing.
-use Rattle.std.specs.Prelude.{◌≡◌, ℕ, zero, suc, ◌+◌, ◌⊎◌, List, [], ◌∷◌, ◌++◌, Some, None, Option}
-use Rattle.pieces.specs.ModelChoices.{Has, lowest}
+use Rattle.std.specs.Prelude.{ℕ, zero, suc, ◌+◌, List, [], ◌∷◌, ◌++◌, Some, None, Option}
+use Rattle.pieces.specs.ModelChoices.{lowest}
 
 abbrev pub either : Option ℕ → Option ℕ → Option ℕ
 either None o = o

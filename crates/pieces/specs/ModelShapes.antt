@@ -1,5 +1,5 @@
 -- Model: shapes, which are symbolic heaps with everything decided. Assumes nothing.
-use Rattle.std.specs.Prelude.{◌≡◌, ℕ, suc, ◌<◌, Bool, true, false, cond, ◌||◌, eqb, ◌≢◌, ◌⊎◌, List, [], ◌∷◌, Some, None, Option}
+use Rattle.std.specs.Prelude.{◌≡◌, ℕ, suc, ◌<◌, true, ◌≢◌, ◌⊎◌, List, [], ◌∷◌, Some, None}
 use Rattle.heap.specs.Heaps.{Heap}
 use Rattle.pieces.specs.ModelRuns.{Run}
 use Rattle.pieces.specs.Pieces.{put, mem}

@@ -1,19 +1,18 @@
 -- Model: the items on the pile: how far the opening of a piece is done, and the case. Assumes nothing.
-use Rattle.std.specs.Prelude.{◌≡◌, ℕ, ◌<◌, Bool, true, false, cond, not, ◌||◌, ◌≢◌, ◌⊎◌, List, [], ◌∷◌, None, ◌==◌}
+use Rattle.std.specs.Prelude.{◌≡◌, ℕ, ◌<◌, Bool, true, false, cond, not, ◌||◌, ◌≢◌, List, [], ◌∷◌, None, ◌==◌}
 use Rattle.heap.specs.Heaps.{Heap, Split}
 use Rattle.heap.specs.Lists.{Holds}
 use Rattle.heap.specs.declared.atoms.Atom.{Atom}
 use Rattle.heap.specs.declared.atoms.Atom.TheVariants.{Eq, Neq, Next, Lseg}
 use Rattle.sheet.specs.Routines.{Command}
-use Rattle.pieces.specs.declared.shapes.Edge.{Edge}
-use Rattle.pieces.specs.declared.shapes.Edge.TheVariants.{Dead, Cell, Segment}
+use Rattle.pieces.specs.declared.shapes.Edge.TheVariants.{Dead, Segment}
 use Rattle.pieces.specs.Pieces.{mem, Opening, State, Runs}
 use Rattle.pieces.specs.ModelRuns.{Run, minus}
 use Rattle.pieces.specs.ModelChoices.{gather, SomeOf, flat}
 use Rattle.pieces.specs.ModelShapes.{Shape, SoundShape, Fits, set_edge}
 use Rattle.pieces.specs.ModelCover.{is_dead}
 use Rattle.pieces.specs.ModelOpening.{place, add, bare, clash}
-use Rattle.pieces.specs.ModelCases.{Case, onward, hit}
+use Rattle.pieces.specs.ModelCases.{onward, hit}
 
 -- names are still to be placed, atoms to be added, a segment is on its way from node to node, or rows are done
 pub data Stage : Type 0 where

@@ -1,5 +1,5 @@
 -- Meaning: the pieces of a routine: what opens one, the states it goes through row by row, what closes it, and the verdict on them all. Assumes nothing.
-use Rattle.std.specs.Prelude.{◌≡◌, ℕ, zero, suc, ◌≤◌, Bool, true, false, cond, ◌||◌, ◌≢◌, ◌⊎◌, List, [], ◌∷◌, ◌++◌, Some, None, Option, ◌==◌, slice_index_or}
+use Rattle.std.specs.Prelude.{◌≡◌, ℕ, zero, suc, ◌≤◌, Bool, false, cond, ◌||◌, ◌≢◌, ◌⊎◌, List, [], ◌∷◌, ◌++◌, Some, None, Option, ◌==◌, slice_index_or}
 use Rattle.heap.specs.Heaps.{Heap, without}
 use Rattle.heap.specs.Lists.{Holds, renamed}
 use Rattle.heap.specs.declared.atoms.Atom.{Atom}

@@ -1,5 +1,5 @@
 -- The three tests of a line, one after another.
-use Rattle.std.proofs.Common.{◌≡◌, ℕ, Bool, true, false, cond, Some, None, Ok, Err, Option, Result, sym, refl, ap, ◌∙◌, subst, arith}
+use Rattle.std.proofs.Common.{◌≡◌, ℕ, Bool, true, false, cond, Some, None, Ok, Err, Option, sym, refl, ap, arith}
 use Rattle.heap.specs.declared.faults.Problem.{Problem}
 use Rattle.heap.specs.declared.faults.Problem.TheVariants.{NotDue, Operand, AtomCount}
 use Rattle.layout.specs.declared.lines.Six.{Six}

@@ -1,10 +1,10 @@
 -- The tests behind the last line, one after another.
-use Rattle.std.proofs.Common.{◌≡◌, ℕ, suc, ◌+◌, Bool, true, false, cond, ◌&&◌, eqb, List, length, Some, None, Ok, Err, Option, sym, refl, ap, ◌∙◌, subst}
+use Rattle.std.proofs.Common.{◌≡◌, ℕ, suc, Bool, true, false, ◌&&◌, eqb, Ok, Err, Option, sym, ap, ◌∙◌}
 use Rattle.std.proofs.lemmas.Bool.{cond-true, cond-false}
 use Rattle.heap.specs.Faults.{plain}
 use Rattle.sheet.specs.declared.drafts.Draft.{Draft}
 use Rattle.sheet.specs.Laid.{routine_in}
-use Rattle.sheet.specs.Reading.{Progress, at_rows, complete, refused_at, rows_tested, finished, first_misplaced, heavy_piece}
+use Rattle.sheet.specs.Reading.{at_rows, complete, refused_at, rows_tested, finished, first_misplaced, heavy_piece}
 use Rattle.sheet.specs.ModelReading.{Sized, rows_in, progress_in}
 use Rattle.sheet.proofs.RowsIn.{length-rows}
 

@@ -1,10 +1,9 @@
 -- Each entry that the table gives for a number is that of a kind with the number.
-use Rattle.std.proofs.Common.{◌≡◌, ℕ, ◌≤◌, Bool, true, false, cond, eqb, leb, ◌⊎◌, List, [], ◌∷◌, Some, None, Option, sym, refl, ap, ◌∙◌, subst, inl, inr, arith}
+use Rattle.std.proofs.Common.{◌≡◌, ℕ, ◌≤◌, true, eqb, leb, List, [], ◌∷◌, Some, sym, refl, ◌∙◌, inl, inr, arith}
 use Rattle.std.proofs.lemmas.Bool.{cases_Bool, cond-true, cond-false, eqb-true, and_parts, leb-true}
 use Rattle.layout.specs.declared.lines.Six.{Six}
 use Rattle.sheet.specs.declared.kinds.Kind.{Kind}
 use Rattle.sheet.specs.declared.kinds.Kind.TheVariants.{Head, Before, After, Equal, Unequal, Cell, Segment, Set, Load, Store, New, Free, Jump, Branch, Cut, Call, Done}
-use Rattle.sheet.specs.declared.kinds.Role.{Role}
 use Rattle.sheet.specs.declared.kinds.Role.TheVariants as role
 use Rattle.sheet.specs.declared.kinds.Class.{Class}
 use Rattle.sheet.specs.declared.kinds.Entry.{Entry}

@@ -1,20 +1,18 @@
 -- What lies in a sheet is the routine that was laid there.
-use Rattle.std.proofs.Common.{◌≡◌, ℕ, suc, ◌+◌, ◌-◌, ◌<◌, ◌≤◌, true, false, List, [], ◌∷◌, ◌++◌, map, length, take, replicate, None, sym, refl, ap, ◌∙◌, subst, arith}
+use Rattle.std.proofs.Common.{◌≡◌, ◌-◌, ◌≤◌, false, List, [], ◌∷◌, map, length, take, replicate, sym, refl, ap, ◌∙◌, subst, arith}
 use mathlib.Core.Logic.{∥∥₁_elim}
 use native.Mathlib.Bridge.{le_prop}
 use lib.ListN.{length-map}
 use Rattle.std.proofs.lemmas.List.{take_at, length-append, length-replicate}
 use Rattle.heap.specs.declared.atoms.Atom.{Atom}
 use Rattle.heap.specs.declared.atoms.Atom.TheVariants.{Eq}
-use Rattle.sheet.specs.declared.rows.Row.{Row}
 use Rattle.sheet.specs.declared.rows.Row.TheVariants as row
 use Rattle.sheet.specs.declared.sheets.Body.{Body}
-use Rattle.sheet.specs.declared.drafts.Draft.{Draft}
-use Rattle.sheet.specs.Routines.{Command, assign, load, store, new, free, jump, branch, cut, call, done, Routine, total}
+use Rattle.sheet.specs.Routines.{Command, assign, load, store, new, free, jump, branch, cut, call, done, Routine}
 use Rattle.sheet.specs.Laid.{filled, laid_list, laid_row, laid, laid_progress, list_in, command_in, routine_in}
 use Rattle.sheet.specs.Reading.{Progress}
 use Rattle.sheet.specs.Flow.{misplaced, InPlace}
-use Rattle.sheet.specs.Formed.{WellFormed, ListFormed, RowFormed}
+use Rattle.sheet.specs.Formed.{WellFormed}
 use Rattle.sheet.specs.Sheets.{new_routine}
 use Rattle.sheet.specs.ModelReading.{Sized, progress_in}
 use Rattle.sheet.proofs.WeightsExact.{heavy_none}

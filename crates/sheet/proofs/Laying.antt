@@ -1,29 +1,24 @@
 -- A draft holds what the lines so far say: each step of the code on a laid routine is the step of the definition.
-use Rattle.std.proofs.Common.{◌≡◌, ℕ, suc, ◌+◌, ◌-◌, ◌<◌, ◌≤◌, Bool, true, false, cond, ◌&&◌, ◌||◌, eqb, ltb, leb, List, [], ◌∷◌, ◌++◌, map, length, get_or, take, set, replicate, Some, None, Ok, Err, Option, Result, sym, refl, ap, ◌∙◌, subst, add-one, arith}
+use Rattle.std.proofs.Common.{◌≡◌, ℕ, suc, ◌-◌, ◌<◌, ◌||◌, eqb, leb, List, [], ◌∷◌, ◌++◌, map, length, get_or, set, replicate, Some, None, Option, sym, refl, ap, ◌∙◌, subst, arith}
 use lib.ListN.{length-map}
-use Rattle.std.proofs.lemmas.List.{set_at, append_assoc, length-append, length_push, map_push, take_at, get_or_at, append-nil}
+use Rattle.std.proofs.lemmas.List.{set_at, append_assoc, length_push, map_push, get_or_at}
 use Rattle.std.proofs.lemmas.Bool.{cond-false, ne_eqb}
 use Rattle.heap.specs.declared.atoms.Atom.{Atom}
 use Rattle.heap.specs.declared.atoms.Atom.TheVariants.{Eq}
-use Rattle.sheet.specs.declared.rows.AtomList.{AtomList}
 use Rattle.sheet.specs.declared.rows.Row.{Row}
 use Rattle.sheet.specs.declared.rows.Row.TheVariants as row
-use Rattle.sheet.specs.declared.sheets.Body.{Body}
 use Rattle.sheet.specs.declared.drafts.Stage.{Stage}
 use Rattle.sheet.specs.declared.drafts.Stage.TheVariants.{Start, Headed, BeforeList, Rows}
 use Rattle.sheet.specs.declared.drafts.Open.{Open}
-use Rattle.sheet.specs.declared.drafts.Draft.{Draft}
 use Rattle.sheet.specs.Routines.{Command, assign, load, store, new, free, jump, branch, cut, call, done, Routine, list_of, total}
-use Rattle.sheet.specs.declared.kinds.Kind.{Kind}
 use Rattle.sheet.specs.declared.kinds.Role.{Role}
 use Rattle.sheet.specs.declared.kinds.Role.TheVariants as role
 use Rattle.sheet.specs.declared.kinds.Entry.{Entry}
 use Rattle.layout.specs.declared.lines.Six.{Six}
-use Rattle.heap.specs.declared.faults.Problem.{Problem}
 use Rattle.sheet.specs.Kinds.{fits}
 use Rattle.sheet.specs.Laid.{filled, laid_list, laid_row, laid, laid_progress}
-use Rattle.sheet.specs.Reading.{Progress, open_as, open_behind, open_last, open_at, open_in, last_of, with_atom, at_last, with_rows, is_open, due, scope_open, scope_for, full, overfull, wrong}
-use Rattle.sheet.specs.ModelDrafts.{pushed, open_row, row_with, last_row, open_body, open_stage, open_draft, with_row, due_draft, scope_list, scope_line, overfull_draft, wrong_draft}
+use Rattle.sheet.specs.Reading.{Progress, open_behind, open_last, open_at, open_in, last_of, with_atom, at_last, with_rows, is_open, due, scope_open, scope_for, full, overfull, wrong}
+use Rattle.sheet.specs.ModelDrafts.{pushed, open_row, row_with, last_row, open_body, open_stage, open_draft, due_draft, scope_list, scope_line, overfull_draft, wrong_draft}
 use Rattle.sheet.proofs.Checks.{tests}
 
 -- one more in a filled list

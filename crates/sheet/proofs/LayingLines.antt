@@ -1,31 +1,23 @@
 -- What a line adds to a draft is what it adds to the routine so far.
-use Rattle.std.proofs.Common.{◌≡◌, ℕ, suc, ◌+◌, ◌-◌, ◌<◌, ◌≤◌, Bool, true, false, cond, ◌&&◌, ◌||◌, eqb, ltb, leb, List, [], ◌∷◌, ◌++◌, map, length, get_or, take, set, replicate, Some, None, Ok, Err, Option, Result, sym, refl, ap, ◌∙◌, subst, arith}
+use Rattle.std.proofs.Common.{◌≡◌, ℕ, ◌+◌, ◌-◌, ◌<◌, ◌≤◌, true, false, eqb, ltb, leb, List, [], ◌∷◌, ◌++◌, map, length, set, Some, sym, refl, ap, ◌∙◌, subst, arith}
 use lib.ListN.{length-map}
 use Rattle.std.proofs.lemmas.List.{length_push, map_push}
-use Rattle.std.proofs.lemmas.Bool.{cond-false, ne_eqb, and_parts, or_parts, ltb-true, leb-false, leb-true, false≢true}
+use Rattle.std.proofs.lemmas.Bool.{cond-false, ne_eqb, and_parts, or_parts, ltb-true, leb-false, false≢true}
 use Rattle.heap.specs.declared.atoms.Atom.{Atom}
-use Rattle.heap.specs.declared.faults.Problem.{Problem}
 use Rattle.layout.specs.declared.lines.Six.{Six}
-use Rattle.layout.specs.declared.lines.Numbers.{Numbers}
-use Rattle.sheet.specs.declared.rows.AtomList.{AtomList}
-use Rattle.sheet.specs.declared.rows.Row.{Row}
 use Rattle.sheet.specs.declared.rows.Row.TheVariants as row
 use Rattle.sheet.specs.declared.sheets.Body.{Body}
 use Rattle.sheet.specs.declared.drafts.Stage.{Stage}
 use Rattle.sheet.specs.declared.drafts.Stage.TheVariants.{Start, Headed, BeforeList, Rows}
-use Rattle.sheet.specs.declared.drafts.Draft.{Draft}
 use Rattle.sheet.specs.declared.kinds.Kind.{Kind}
 use Rattle.sheet.specs.declared.kinds.Kind.TheVariants as kind
 use Rattle.sheet.specs.declared.kinds.Role.{Role}
 use Rattle.sheet.specs.declared.kinds.Role.TheVariants as role
-use Rattle.sheet.specs.declared.kinds.Entry.{Entry}
-use Rattle.sheet.specs.Kinds.{table, entry_for, fits}
 use Rattle.sheet.specs.Routines.{Command, assign, load, store, new, free, jump, branch, cut, call, done, Routine, list_of, atoms_behind, total}
-use Rattle.sheet.specs.Laid.{filled, laid_list, laid_row, laid, laid_progress}
-use Rattle.sheet.specs.Reading.{Progress, open_behind, open_last, open_at, open_in, last_of, with_atom, at_last, with_rows, with_before, with_after, is_open, due, full, overfull, wrong, at_rows, atom_for, command_for, atom_in_rows, atom_into, next_by, or_wrong, line_by, line_more}
-use Rattle.sheet.specs.ModelDrafts.{pushed, row_for, row_with, last_row, with_row, atom_before, atom_after, atom_last, atom_body, atom_stage, added, taken_unless, taken_as, taken_line, wrong_draft}
-use Rattle.sheet.proofs.Rooms.{passed}
-use Rattle.sheet.proofs.Laying.{filled_more, pushed-laid, row_laid, Ends, ends_in, last_of_lem, at_last_lem, last_laid, last_set, wrong_same, open_same}
+use Rattle.sheet.specs.Laid.{filled, laid_row, laid, laid_progress}
+use Rattle.sheet.specs.Reading.{Progress, open_behind, open_last, open_at, open_in, last_of, with_atom, at_last, with_rows, is_open, due, full, overfull, at_rows, atom_for, command_for, atom_in_rows, atom_into, next_by}
+use Rattle.sheet.specs.ModelDrafts.{row_for, row_with, last_row, with_row, atom_after, atom_last, atom_body, atom_stage, added}
+use Rattle.sheet.proofs.Laying.{filled_more, pushed-laid, row_laid, ends_in, last_of_lem, at_last_lem, last_laid, last_set}
 
 pub atoms_push : (front : List Command) (c : Command) → atoms_behind (front ++ c ∷ []) ≡ atoms_behind front + length (list_of c)
 atoms_push [] c = omega arith

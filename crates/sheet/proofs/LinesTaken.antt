@@ -1,10 +1,10 @@
 -- The lines of a text, taken by a draft one after another, are the lines of the definition.
-use Rattle.std.proofs.Common.{◌≡◌, ℕ, suc, ◌+◌, ◌<◌, ◌≤◌, Bool, true, false, cond, ◌&&◌, ltb, List, [], ◌∷◌, ◌++◌, length, get_or, drop, Some, None, Ok, Err, Option, Result, sym, refl, ap, ◌∙◌, subst, arith}
+use Rattle.std.proofs.Common.{◌≡◌, ℕ, suc, ◌+◌, ◌<◌, ◌≤◌, true, false, ltb, List, [], ◌∷◌, length, get_or, drop, Some, None, Ok, Err, Option, Result, sym, refl, ap, ◌∙◌, subst, arith}
 use Rattle.std.proofs.lemmas.List.{length_push, at_drop_more, at_drop_all}
 use Rattle.std.proofs.lemmas.Bool.{and_parts, ltb-true}
 use Rattle.heap.specs.declared.faults.Problem.{Problem}
 use Rattle.heap.specs.declared.atoms.Atom.{Atom}
-use Rattle.heap.specs.Faults.{Report, plain, number}
+use Rattle.heap.specs.Faults.{plain, number}
 use Rattle.layout.specs.declared.lines.Six.{Six}
 use Rattle.layout.specs.declared.lines.Numbers.{Numbers}
 use Rattle.sheet.specs.declared.drafts.Draft.{Draft}
@@ -15,11 +15,11 @@ use Rattle.sheet.specs.declared.kinds.Kind.TheVariants.{Head}
 use Rattle.sheet.specs.declared.kinds.Role.{Role}
 use Rattle.sheet.specs.declared.kinds.Role.TheVariants as role
 use Rattle.sheet.specs.declared.kinds.Entry.{Entry}
-use Rattle.sheet.specs.Kinds.{table, entry_for, fits, classes_of, role_of}
+use Rattle.sheet.specs.Kinds.{table, entry_for, fits, classes_of}
 use Rattle.sheet.specs.Routines.{Command, Routine}
 use Rattle.sheet.specs.Laid.{laid_progress}
 use Rattle.sheet.specs.Reading.{Progress, start, at_place, onward, all_lines, due, overfull, scope_for, wrong, at_rows, at_last, with_atom, atom_in_rows, atom_into, atom_for, next_by, or_wrong, line_by, line_more}
-use Rattle.sheet.specs.ModelDrafts.{added, taken_unless, taken_as, taken_line, wrong_draft}
+use Rattle.sheet.specs.ModelDrafts.{added, taken_unless, taken_as, taken_line}
 use Rattle.sheet.specs.ModelReading.{Within, Reached, Read}
 use Rattle.sheet.proofs.Rooms.{passed}
 use Rattle.sheet.proofs.Laying.{wrong_same}

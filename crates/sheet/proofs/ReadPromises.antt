@@ -1,5 +1,5 @@
 -- What reading promises, from the definition and its laws.
-use Rattle.std.proofs.Common.{◌≡◌, ℕ, List, Ok, Err, Result, sym, refl, ap, ◌∙◌, subst, arith}
+use Rattle.std.proofs.Common.{◌≡◌, ℕ, List, Ok, Err, Result, sym, ap, ◌∙◌, arith}
 use Rattle.heap.specs.Faults.{Report}
 use Rattle.sheet.specs.declared.sheets.Body.{Body}
 use Rattle.sheet.specs.Routines.{Routine}

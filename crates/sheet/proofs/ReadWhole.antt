@@ -1,13 +1,11 @@
 -- The parts of reading, put together.
-use Rattle.std.proofs.Common.{◌≡◌, ℕ, ◌≤◌, List, length, Ok, Err, Result, sym, refl, ap, ◌∙◌, subst}
+use Rattle.std.proofs.Common.{◌≡◌, ℕ, List, length, Ok, Err, sym, ap, ◌∙◌, subst}
 use Rattle.heap.specs.Faults.{Report}
 use Rattle.layout.specs.declared.lines.Numbers.{Numbers}
 use Rattle.layout.specs.Texts.{lines_of}
-use Rattle.sheet.specs.declared.sheets.Body.{Body}
 use Rattle.sheet.specs.declared.drafts.Draft.{Draft}
-use Rattle.sheet.specs.Routines.{Routine}
-use Rattle.sheet.specs.Laid.{laid, laid_progress, routine_in}
-use Rattle.sheet.specs.Reading.{Progress, start, onward, all_lines, finished, reading}
+use Rattle.sheet.specs.Laid.{laid, routine_in}
+use Rattle.sheet.specs.Reading.{start, onward, all_lines, finished, reading}
 use Rattle.sheet.specs.ModelReading.{Read, Sized, progress_in}
 use Rattle.sheet.proofs.LaidBack.{routine_back, progress_back, sized_laid}
 

@@ -12,7 +12,7 @@ use Rattle.sheet.specs.declared.kinds.Kind.TheVariants.{Head}
 use Rattle.sheet.specs.declared.kinds.Entry.{Entry}
 use Rattle.sheet.specs.declared.drafts.Stage.{Stage}
 use Rattle.sheet.specs.declared.drafts.Stage.TheVariants.{Start, Headed, BeforeList, Rows}
-use Rattle.sheet.specs.Kinds.{classes_of, fits}
+use Rattle.sheet.specs.Kinds.{classes_of}
 use Rattle.sheet.specs.Routines.{Routine}
 use Rattle.sheet.specs.Written.{line_as, head_columns, lines_for, text_of}
 use Rattle.sheet.specs.Formed.{WellFormed, RowFormed}

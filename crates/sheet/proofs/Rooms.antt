@@ -1,8 +1,7 @@
 -- A line with nothing wrong finds room.
-use Rattle.std.proofs.Common.{◌≡◌, ℕ, ◌<◌, ◌≤◌, Bool, true, false, cond, ◌&&◌, ◌||◌, ltb, leb, Some, None, Ok, Err, Option, sym, refl, ap, ◌∙◌, subst, arith}
+use Rattle.std.proofs.Common.{◌≡◌, ℕ, ◌≤◌, Bool, true, false, ltb, leb, Some, None, Ok, Err, Option, sym, refl, ap, ◌∙◌, arith}
 use Rattle.std.proofs.lemmas.Bool.{and_parts, or_parts, ltb-true, leb-false}
 use Rattle.heap.specs.declared.faults.Problem.{Problem}
-use Rattle.heap.specs.declared.faults.Problem.TheVariants.{NotDue, Operand, AtomCount}
 use Rattle.layout.specs.declared.lines.Six.{Six}
 use Rattle.sheet.specs.declared.kinds.Role.{Role}
 use Rattle.sheet.specs.declared.kinds.Role.TheVariants as role

@@ -1,5 +1,5 @@
 -- Meaning: how a routine lies in a sheet: behind the last atom and the last row stands one fixed value. Assumes nothing.
-use Rattle.std.specs.Prelude.{ℕ, ◌-◌, List, [], ◌∷◌, ◌++◌, map, length, take, replicate}
+use Rattle.std.specs.Prelude.{ℕ, ◌-◌, List, ◌++◌, map, length, take, replicate}
 use Rattle.heap.specs.declared.atoms.Atom.{Atom}
 use Rattle.heap.specs.declared.atoms.Atom.TheVariants.{Eq}
 use Rattle.sheet.specs.declared.rows.AtomList.{AtomList}

@@ -1,5 +1,5 @@
 -- Meaning: the laws of reading: the format is how a sheet is written, and a refusal names the first thing that is wrong. Assumes nothing.
-use Rattle.std.specs.Prelude.{◌≡◌, ℕ, suc, ◌*◌, ◌<◌, ◌≤◌, Bool, true, false, cond, ◌⊎◌, List, length, take, Some, None, Ok, Err, nat_lt, slice_index_or}
+use Rattle.std.specs.Prelude.{◌≡◌, ℕ, suc, ◌*◌, ◌<◌, ◌≤◌, true, false, cond, ◌⊎◌, List, length, take, Some, None, Ok, Err, nat_lt, slice_index_or}
 use Rattle.heap.specs.Faults.{Report, plain}
 use Rattle.layout.specs.declared.lines.Numbers.{Numbers}
 use Rattle.layout.specs.Lines.{numbers_in}

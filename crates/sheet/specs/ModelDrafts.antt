@@ -1,5 +1,5 @@
 -- Model: how the code holds what it has read, and what each of its steps does to that. Assumes nothing.
-use Rattle.std.specs.Prelude.{◌≡◌, ℕ, ◌+◌, ◌-◌, ◌<◌, Bool, true, false, cond, ◌&&◌, ◌||◌, List, [], ◌∷◌, Some, None, Ok, Err, Option, Result, ◌==◌, nat_le, nat_lt, slice_index_or, slice_set}
+use Rattle.std.specs.Prelude.{◌≡◌, ℕ, ◌+◌, ◌-◌, ◌<◌, Bool, false, cond, ◌&&◌, ◌||◌, [], ◌∷◌, Some, None, Ok, Err, Option, Result, ◌==◌, nat_le, nat_lt, slice_index_or, slice_set}
 use Rattle.heap.specs.declared.atoms.Atom.{Atom}
 use Rattle.heap.specs.declared.atoms.Atom.TheVariants.{Eq}
 use Rattle.heap.specs.declared.faults.Problem.{Problem}

@@ -1,5 +1,5 @@
 -- Model: what the code's loops over lines and rows have found out. Assumes nothing.
-use Rattle.std.specs.Prelude.{◌≡◌, ℕ, suc, ◌+◌, ◌-◌, ◌≤◌, max, cond, List, map, length, take, drop, Ok, Err, nat_lt, slice_index}
+use Rattle.std.specs.Prelude.{◌≡◌, ℕ, suc, ◌+◌, ◌-◌, ◌≤◌, max, cond, List, map, length, take, drop, Ok, nat_lt, slice_index}
 use Rattle.layout.specs.declared.lines.Numbers.{Numbers}
 use Rattle.sheet.specs.declared.sheets.Body.{Body}
 use Rattle.sheet.specs.declared.drafts.Draft.{Draft}

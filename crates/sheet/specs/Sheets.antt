@@ -1,5 +1,5 @@
 -- Meaning: the sheet that is new, and what reading answers and leaves. Assumes nothing.
-use Rattle.std.specs.Prelude.{◌≡◌, ℕ, List, [], ◌∷◌, Ok, Err, Result}
+use Rattle.std.specs.Prelude.{[], ◌∷◌, Ok, Err, Result}
 use Rattle.heap.specs.declared.faults.Fault.{Fault}
 use Rattle.heap.specs.Faults.{Report, report}
 use Rattle.sheet.specs.declared.sheets.Body.{Body}

@@ -1,5 +1,5 @@
 -- Meaning: what a store means, the bounds it keeps, and what each call answers and makes of it. Assumes nothing.
-use Rattle.std.specs.Prelude.{◌≡◌, ℕ, zero, suc, ◌+◌, ◌-◌, ◌<◌, ◌≤◌, Bool, true, false, cond, ◌&&◌, List, [], ◌∷◌, is_some, Some, None, Result, MatchResult, nat_le}
+use Rattle.std.specs.Prelude.{◌≡◌, ℕ, zero, suc, ◌+◌, ◌<◌, ◌≤◌, Bool, true, false, cond, ◌&&◌, List, [], ◌∷◌, is_some, Some, Result, MatchResult, nat_le}
 use Rattle.heap.specs.Faults.{Report, report}
 use Rattle.heap.specs.Heaps.{Heap, put, without}
 use Rattle.heap.specs.declared.faults.Fault.{Fault}

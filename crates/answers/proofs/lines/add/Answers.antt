@@ -1,5 +1,5 @@
 -- Byte by byte.
-use Rattle.std.proofs.Common.{◌≡◌, ◌+◌, ◌<◌, ◌≤◌, length, get_or, ◌∙◌, arith, length-set}
+use Rattle.std.proofs.Common.{get_or, ◌∙◌, arith, length-set}
 use Rattle.answers.specs.Shown.{shown}
 use Rattle.answers.proofs.Adding.{byte_more, bytes_all}
 use Rattle.answers.proofs.lines.add.Goals as goal

@@ -1,7 +1,6 @@
 -- The label, then the column.
-use Rattle.std.proofs.Common.{◌≡◌, ◌++◌, length, ap, ◌∙◌, arith}
+use Rattle.std.proofs.Common.{◌++◌, length, ap, ◌∙◌, arith}
 use Rattle.std.proofs.lemmas.List.{append_assoc}
-use Rattle.layout.specs.Columns.{column_of}
 use Rattle.layout.proofs.ColumnsExact.{length-column}
 use Rattle.answers.specs.Shown.{shown}
 use Rattle.answers.proofs.summaries.labelled.Goals as goal

@@ -1,5 +1,5 @@
 -- An edge that is left, or none.
-use Rattle.std.proofs.Common.{◌≡◌, sym, ◌∙◌, arith, rules}
+use Rattle.std.proofs.Common.{arith, rules}
 use Rattle.cases.specs.Covers.{edges_of}
 use Rattle.cases.proofs.Walks.{one_left, none_left}
 use Rattle.cases.proofs.covering.none_left.Goals as goal

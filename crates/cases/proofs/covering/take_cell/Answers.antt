@@ -1,5 +1,5 @@
 -- One edge less.
-use Rattle.std.proofs.Common.{◌≡◌, ◌<◌, length, sym, ◌∙◌, arith, rules}
+use Rattle.std.proofs.Common.{◌<◌, length, rules}
 use Rattle.pieces.specs.declared.shapes.Edge.TheVariants.{Dead}
 use Rattle.cases.proofs.Walks.{put_set, inside_set}
 use Rattle.cases.proofs.covering.take_cell.Goals as goal

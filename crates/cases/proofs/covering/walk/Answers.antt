@@ -1,5 +1,5 @@
 -- One edge taken, or the end, or nothing to take.
-use Rattle.std.proofs.Common.{◌≡◌, ◌-◌, ◌<◌, length, ◌∙◌, inl, inr, arith, length-set, rules}
+use Rattle.std.proofs.Common.{◌-◌, ◌<◌, length, ◌∙◌, arith, length-set, rules}
 use Rattle.pieces.specs.declared.shapes.Edge.TheVariants.{Dead}
 use Rattle.cases.proofs.covering.walk.Goals as goal
 use Rattle.cases.proofs.Walks.{stopped, died, went_on, inside_set}

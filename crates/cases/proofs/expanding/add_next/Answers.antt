@@ -1,5 +1,5 @@
 -- By the index: the next atom, or all are added.
-use Rattle.std.proofs.Common.{◌≡◌, ◌+◌, ◌≤◌, length, sym, refl, ap, ◌∙◌, subst, arith, rules}
+use Rattle.std.proofs.Common.{◌+◌, ◌≤◌, length, sym, ap, subst, arith}
 use Rattle.heap.specs.declared.atoms.Atom.TheVariants.{Eq}
 use Rattle.heap.specs.Piles.{capacity, entries}
 use Rattle.cases.specs.declared.cases.Stage.TheVariants.{Running}

@@ -1,5 +1,5 @@
 -- By the index: the next name, or all are placed.
-use Rattle.std.proofs.Common.{◌≡◌, ◌+◌, ◌≤◌, length, sym, refl, ap, ◌∙◌, subst, arith, rules}
+use Rattle.std.proofs.Common.{◌+◌, ◌≤◌, length, sym, ap, subst, arith}
 use Rattle.heap.specs.Piles.{capacity, entries}
 use Rattle.cases.specs.declared.cases.Stage.TheVariants.{Adding}
 use Rattle.cases.specs.Items.{shape_of, LaidAs}

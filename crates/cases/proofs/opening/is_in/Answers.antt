@@ -1,5 +1,5 @@
 -- The name at the index is the one, or what is left decides.
-use Rattle.std.proofs.Common.{eqb, refl, arith, eq-eqb}
+use Rattle.std.proofs.Common.{eqb, refl, arith}
 use Rattle.std.proofs.lemmas.Bool.Decides.{nat_tests}
 use Rattle.pieces.specs.Pieces.{mem}
 use Rattle.cases.proofs.Loops.{any_here, any_on, any_none}

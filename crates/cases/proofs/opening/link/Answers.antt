@@ -1,5 +1,5 @@
 -- The ways over a node leave room for the straight one.
-use Rattle.std.proofs.Common.{[], ◌++◌, length, drop, ap, arith, rules}
+use Rattle.std.proofs.Common.{[], ◌++◌, length, drop, ap, arith}
 use Rattle.heap.specs.Piles.{entries}
 use Rattle.pieces.specs.declared.shapes.Edge.TheVariants.{Segment}
 use Rattle.pieces.specs.ModelChoices.{gather}

@@ -1,5 +1,5 @@
 -- One node more: the segment goes over it, or not.
-use Rattle.std.proofs.Common.{◌≡◌, ◌+◌, ◌≤◌, [], length, drop, sym, refl, ap, ◌∙◌, subst, rules}
+use Rattle.std.proofs.Common.{◌+◌, ◌≤◌, [], length, drop, sym, ap, ◌∙◌, subst}
 use Rattle.heap.specs.Piles.{capacity, entries}
 use Rattle.pieces.specs.ModelChoices.{gather}
 use Rattle.pieces.specs.ModelStages.{laid, item}

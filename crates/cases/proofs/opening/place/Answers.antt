@@ -1,6 +1,6 @@
 -- The name at a node of its own, on what lies there already.
-use Rattle.std.proofs.Common.{◌≡◌, ◌+◌, length, get_or, drop, sym, refl, ap, ◌∙◌, subst, arith, length-append, rules}
-use Rattle.heap.specs.Piles.{capacity, entries}
+use Rattle.std.proofs.Common.{◌≡◌, ◌+◌, get_or, drop, ap, ◌∙◌, arith, length-append}
+use Rattle.heap.specs.Piles.{entries}
 use Rattle.pieces.specs.declared.shapes.Edge.TheVariants.{Dead}
 use Rattle.pieces.specs.ModelChoices.{gather}
 use Rattle.pieces.specs.ModelShapes.{set_name, add_node}

@@ -1,5 +1,5 @@
 -- The name at one node more.
-use Rattle.std.proofs.Common.{◌≡◌, ◌+◌, ◌≤◌, length, get_or, sym, refl, ap, ◌∙◌, subst, rules}
+use Rattle.std.proofs.Common.{◌+◌, ◌≤◌, length, get_or, sym, ◌∙◌, subst}
 use Rattle.heap.specs.Piles.{capacity, entries}
 use Rattle.pieces.specs.ModelChoices.{gather}
 use Rattle.pieces.specs.ModelShapes.{set_name}

@@ -1,5 +1,5 @@
 -- A pile with fewer entries than slots is not full.
-use Rattle.std.proofs.Common.{arith, rules}
+use Rattle.std.proofs.Common.{arith}
 use Rattle.heap.proofs.Contents.{length-entries}
 use Rattle.cases.proofs.piling.put.Goals as goal
 

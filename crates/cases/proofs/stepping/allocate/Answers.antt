@@ -1,5 +1,5 @@
 -- The cases at dead nodes leave room for the one at a new node.
-use Rattle.std.proofs.Common.{[], arith, rules}
+use Rattle.std.proofs.Common.{[], arith}
 use Rattle.heap.specs.Piles.{entries}
 use Rattle.pieces.specs.ModelChoices.{gather}
 use Rattle.cases.specs.Items.{shape_of}

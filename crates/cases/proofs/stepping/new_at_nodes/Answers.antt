@@ -1,5 +1,5 @@
 -- One node more: a new cell there, or nothing.
-use Rattle.std.proofs.Common.{◌≡◌, ◌+◌, ◌≤◌, [], length, sym, refl, ap, ◌∙◌, subst, rules}
+use Rattle.std.proofs.Common.{◌+◌, ◌≤◌, [], length, sym, ap, ◌∙◌, subst}
 use Rattle.heap.specs.Piles.{capacity, entries}
 use Rattle.pieces.specs.ModelChoices.{gather}
 use Rattle.cases.specs.declared.cases.Stage.TheVariants.{Running}

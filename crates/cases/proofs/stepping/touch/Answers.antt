@@ -1,5 +1,5 @@
 -- Both halves of a split segment are sound.
-use Rattle.std.proofs.Common.{sym, ap, ◌∙◌, subst, arith, rules}
+use Rattle.std.proofs.Common.{sym, ap, subst, arith, rules}
 use Rattle.pieces.specs.ModelShapes.{SoundShape}
 use Rattle.cases.specs.Items.{shape_of}
 use Rattle.cases.proofs.Splits.{split_sound}

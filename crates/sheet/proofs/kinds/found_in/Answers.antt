@@ -1,5 +1,4 @@
 use Rattle.std.proofs.Common.{sym, ◌∙◌, rules}
-use Rattle.std.proofs.lemmas.Bool.{eqb-true, eqb-false}
 use Rattle.sheet.proofs.Tables.{found_here, found_later, found_nowhere}
 use Rattle.sheet.proofs.kinds.found_in.Goals as goal
 

@@ -1,5 +1,5 @@
 -- Each turn takes the next line.
-use Rattle.std.proofs.Common.{◌≡◌, Err, sym, refl, ap, ◌∙◌, add-one, rules}
+use Rattle.std.proofs.Common.{Err, sym, ap, ◌∙◌, add-one}
 use Rattle.std.proofs.lemmas.List.{get_or_default}
 use Rattle.sheet.proofs.LinesTaken.{reached_more, reached_wrong, reached_all}
 use Rattle.sheet.proofs.reading.drafted.Goals as goal

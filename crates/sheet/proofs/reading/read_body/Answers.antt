@@ -1,7 +1,7 @@
 -- Each way out of reading is the definition's.
-use Rattle.std.proofs.Common.{◌≡◌, length, Ok, sym, refl, ap, ◌∙◌}
+use Rattle.std.proofs.Common.{length, Ok, sym, refl, ap, ◌∙◌}
 use Rattle.std.proofs.lemmas.Result.{err_from_is_err_and}
-use Rattle.sheet.proofs.ReadWhole.{refused_lines, refused_line, decided, draft_sized, draft_laid}
+use Rattle.sheet.proofs.ReadWhole.{refused_lines, refused_line, decided, draft_laid}
 use Rattle.sheet.proofs.reading.read_body.Goals as goal
 
 pub returns-in_err-scanned : goal.returns-in_err-scanned

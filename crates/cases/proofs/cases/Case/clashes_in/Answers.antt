@@ -1,5 +1,5 @@
 -- The atom at the index clashes, or what is left decides.
-use Rattle.std.proofs.Common.{sym, refl, ◌∙◌, rules}
+use Rattle.std.proofs.Common.{sym, refl, ◌∙◌}
 use Rattle.pieces.specs.ModelOpening.{clashes, clash}
 use Rattle.cases.specs.Items.{shape_of}
 use Rattle.cases.proofs.Loops.{any_here, any_on, any_none}

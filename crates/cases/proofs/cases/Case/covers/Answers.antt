@@ -1,5 +1,5 @@
 -- An atom takes its edges; what is left of both decides.
-use Rattle.std.proofs.Common.{◌≡◌, ◌+◌, ◌&&◌, length, drop, sym, refl, ap, ◌∙◌, subst, inl, inr, rules}
+use Rattle.std.proofs.Common.{◌+◌, ◌&&◌, drop, sym, refl, ap, ◌∙◌, inl, inr}
 use Rattle.pieces.specs.ModelCover.{covered}
 use Rattle.cases.specs.Covers.{edges_of}
 use Rattle.cases.specs.Items.{shape_of}

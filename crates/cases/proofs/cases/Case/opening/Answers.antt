@@ -1,6 +1,6 @@
 -- The case is the empty one, at another row and stage.
-use Rattle.std.proofs.Common.{◌≡◌, refl, ap, ◌∙◌}
-use Rattle.cases.specs.declared.cases.Stage.TheVariants.{Placing, Running}
+use Rattle.std.proofs.Common.{refl, ap, ◌∙◌}
+use Rattle.cases.specs.declared.cases.Stage.TheVariants.{Running}
 use Rattle.cases.specs.Items.{shape_of}
 use Rattle.cases.proofs.Bare.{empty_bare}
 use Rattle.cases.proofs.cases.Case.opening.Goals as goal

@@ -1,5 +1,4 @@
 -- The cell of a Next is one edge.
-use Rattle.std.proofs.Common.{◌≡◌, sym, refl, ap, ◌∙◌, subst, rules}
 use Rattle.cases.specs.Covers.{edges_of}
 use Rattle.cases.specs.Items.{shape_of}
 use Rattle.cases.proofs.Walks.{next_taken}

@@ -1,5 +1,5 @@
 -- Every address that was passed is live.
-use Rattle.std.proofs.Common.{◌≡◌, ℕ, ◌+◌, ◌-◌, ◌<◌, ◌≤◌, true, is_some}
+use Rattle.std.proofs.Common.{◌≡◌, ℕ, ◌-◌, ◌<◌, ◌≤◌, true, is_some}
 use Rattle.ledger.specs.Records.{cells, usable}
 use Rattle.ledger.proofs.ledgers.Ledger.dead_from.Given as goal
 

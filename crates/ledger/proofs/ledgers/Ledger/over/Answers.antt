@@ -1,5 +1,5 @@
 -- The prepared records are sound.
-use Rattle.std.proofs.Common.{◌≡◌, true, ap, ◌∙◌, arith}
+use Rattle.std.proofs.Common.{ap, ◌∙◌, arith}
 use Rattle.ledger.proofs.Usable.{cleared_sound}
 use Rattle.ledger.proofs.ledgers.Ledger.over.Goals as goal
 use Rattle.ledger.specs.Records.{sound, usable}

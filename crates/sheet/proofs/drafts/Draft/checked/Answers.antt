@@ -1,4 +1,4 @@
-use Rattle.std.proofs.Common.{◌≡◌, sym, ap, ◌∙◌}
+use Rattle.std.proofs.Common.{sym, ap, ◌∙◌}
 use Rattle.sheet.specs.Kinds.{fits}
 use Rattle.sheet.specs.ModelDrafts.{overfull_draft}
 use Rattle.sheet.proofs.Checks.{none_by_test, some_by_test, wrong_operand, wrong_count, nothing_wrong}

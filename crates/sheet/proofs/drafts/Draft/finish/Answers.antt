@@ -1,5 +1,5 @@
 -- Each refusal, and what is left when there is none.
-use Rattle.std.proofs.Common.{◌≡◌, Some, None, Err, sym, refl, ap, ◌∙◌, add-one}
+use Rattle.std.proofs.Common.{Some, None, Err, sym, refl, ap, ◌∙◌, add-one}
 use Rattle.sheet.specs.Reading.{heavy_piece}
 use Rattle.sheet.specs.ModelReading.{rows_in}
 use Rattle.sheet.proofs.Finishing.{unfinished, ended}

@@ -1,7 +1,6 @@
 -- The two ways out of reading.
-use Rattle.std.proofs.Common.{◌≡◌, Ok, Err, sym, refl, ap, ◌∙◌}
+use Rattle.std.proofs.Common.{refl, ◌∙◌}
 use Rattle.std.proofs.lemmas.Result.{err_from_is_err_and}
-use Rattle.heap.specs.Faults.{report}
 use Rattle.sheet.specs.Laid.{routine_in}
 use Rattle.sheet.proofs.FirstFault.{refusals_first}
 use Rattle.sheet.proofs.LaidBack.{sealed}

@@ -1,5 +1,5 @@
 -- The rows in use, by what the sheet's type promises.
-use Rattle.std.proofs.Common.{◌≡◌, ◌≤◌, length, sym, ◌∙◌, subst, arith, length-take, rules}
+use Rattle.std.proofs.Common.{◌≤◌, length, sym, ◌∙◌, subst, arith, length-take, rules}
 use Rattle.sheet.proofs.LaidBack.{few_rows_in, rows_laid}
 use Rattle.sheet.proofs.sealed.Sheet.rows.Goals as goal
 

@@ -1,10 +1,9 @@
 -- The start, then row by row.
-use Rattle.std.proofs.Common.{◌≡◌, ◌+◌, ◌<◌, ◌≤◌, ◌&&◌, ltb, length, get_or, sym, ap, ◌∙◌, arith}
+use Rattle.std.proofs.Common.{◌+◌, ◌&&◌, ltb, get_or, sym, ap, ◌∙◌, arith}
 use Rattle.std.proofs.lemmas.List.{at_drop_all}
 use Rattle.sheet.specs.Routines.{done}
 use Rattle.sheet.specs.Flow.{opens}
-use Rattle.sheet.specs.Laid.{command_in}
-use Rattle.sheet.specs.Reading.{first_heavy, weights}
+use Rattle.sheet.specs.Reading.{first_heavy}
 use Rattle.sheet.specs.ModelReading.{rows_in}
 use Rattle.sheet.proofs.RowsIn.{length-rows, row_in}
 use Rattle.sheet.proofs.WeightsPass.{heavy_here, heavy_later, start_light}

@@ -1,5 +1,5 @@
 -- A row inside, and one behind the last.
-use Rattle.std.proofs.Common.{◌≡◌, get_or, sym, ap, ◌∙◌}
+use Rattle.std.proofs.Common.{get_or, ap, ◌∙◌}
 use Rattle.sheet.specs.Routines.{done}
 use Rattle.sheet.specs.ModelReading.{rows_in}
 use Rattle.sheet.proofs.RowsIn.{row_in, row_behind}

@@ -1,5 +1,5 @@
 -- Row by row, back to the first.
-use Rattle.std.proofs.Common.{◌≡◌, suc, ◌+◌, ◌-◌, length, replicate, sym, refl, ap, ◌∙◌, subst, arith, length-set}
+use Rattle.std.proofs.Common.{◌≡◌, suc, ◌+◌, ◌-◌, replicate, sym, refl, ◌∙◌, subst, arith, length-set}
 use Rattle.sheet.specs.Laid.{command_in}
 use Rattle.sheet.specs.Flow.{Most}
 use Rattle.sheet.specs.ModelReading.{rows_in}

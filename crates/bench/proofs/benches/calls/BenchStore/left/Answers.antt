@@ -1,5 +1,5 @@
 -- There are no more live cells than words.
-use Rattle.std.proofs.Common.{length, arith, rules}
+use Rattle.std.proofs.Common.{length, rules}
 use Rattle.bench.proofs.benches.calls.BenchStore.left.Goals as goal
 use Rattle.bench.specs.Words.{cells, size}
 use Rattle.store.proofs.Counting.{live_most}
