@@ -1,6 +1,6 @@
 // Cases: the entries of the pile.
 ghost use Rattle.std.specs.Prelude.{◌≡◌, ◌<◌, ◌≤◌};
-ghost use Rattle.pieces.specs.ModelShapes.{set_name as set_name, set_edge, add_node, short, long};
+ghost use Rattle.pieces.specs.ModelShapes.{set_name, set_edge, add_node, short, long};
 ghost use Rattle.cases.specs.Items.{shape_of, row_of, stage_of, is_running, empty_case};
 ghost use Rattle.pieces.specs.ModelOpening.{bare};
 

@@ -3,7 +3,7 @@ ghost use Rattle.std.specs.Prelude.{◌≡◌, ℕ, suc, ◌+◌, ◌<◌, ◌�
 ghost use Rattle.heap.specs.Piles.{capacity, entries};
 ghost use Rattle.pieces.specs.ModelChoices.{gather};
 ghost use Rattle.pieces.specs.ModelOpening.{clashes, clash as clash_in};
-ghost use Rattle.pieces.specs.ModelShapes.{SoundShape, set_name as set_name, set_edge, add_node};
+ghost use Rattle.pieces.specs.ModelShapes.{SoundShape, set_name, set_edge, add_node};
 ghost use Rattle.pieces.specs.Pieces.{mem};
 ghost use Rattle.pieces.specs.ModelCover.{is_dead};
 ghost use Rattle.pieces.specs.ModelStages.{laid};

@@ -3,7 +3,7 @@ ghost use Rattle.std.specs.Prelude.{◌≡◌, ℕ, suc, ◌+◌, ◌<◌, ◌�
 ghost use Rattle.heap.specs.Piles.{capacity, entries};
 ghost use Rattle.pieces.specs.ModelCases.{aim as aim_of, cells};
 ghost use Rattle.pieces.specs.ModelCover.{is_dead};
-ghost use Rattle.pieces.specs.ModelShapes.{short, long, new_at_lem as new_cell_at, new_apart as new_apart, SoundShape};
+ghost use Rattle.pieces.specs.ModelShapes.{short, long, new_at_lem as new_cell_at, new_apart, SoundShape};
 ghost use Rattle.cases.specs.Items.{shape_of, Ready, LaidOn};
 ghost use Rattle.cases.specs.Steps.{act_of, misses_by, SmallStep, touching, new_at, nexts_by, weighs};
 ghost use Rattle.pieces.specs.ModelChoices.{gather};

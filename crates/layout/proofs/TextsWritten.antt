@@ -1,6 +1,6 @@
 -- A text is read exactly if it is lines written one after another, and else the first fault in it is named.
 use Rattle.std.proofs.Common.{◌≡◌, ℕ, zero, suc, ◌+◌, ◌*◌, ◌/◌, ◌<◌, ◌≤◌, false, ◌⊎◌, List, [], ◌∷◌, ◌++◌, length, get_or, take, drop, Some, None, Ok, Err, Option, Result, sym, refl, ap, ◌∙◌, subst, inl, inr, arith, take-suc}
-use Rattle.std.specs.List.{flat_map, AllByRecursion as All}
+use Rattle.std.specs.List.{flat_map, AllByRecursion}
 use Rattle.std.proofs.lemmas.List.{flat_map_more, take_at, drop_at, drop-drop, take_all, take-take, drop-take, take-append-drop, length-append, length-drop, length-take-le}
 use Rattle.std.proofs.lemmas.Bool.{cases_Bool, cases_eq}
 use Rattle.std.proofs.lemmas.Bool.Decides.{nat_tests}
@@ -44,12 +44,12 @@ behind-written (l ∷ ls) (suc k) d h =
     ∙ (ap (take 29) (sym (drop-drop (k * 29) 29 (written l ++ flat_map written ls)) ∙ ap (drop (k * 29)) (drop_at (written l) (flat_map written ls) 29 (length-written l)))
     ∙ behind-written ls k d (omega arith))
 
-short_at : (ls : List Numbers) (k : ℕ) (d : Numbers) → All Short ls → k < length ls → Short (get_or ls k d)
+short_at : (ls : List Numbers) (k : ℕ) (d : Numbers) → AllByRecursion Short ls → k < length ls → Short (get_or ls k d)
 short_at [] k d a h = absurd (omega arith)
 short_at (l ∷ ls) zero d a h = a.0
 short_at (l ∷ ls) (suc k) d a h = short_at ls k d a.1 (omega arith)
 
-first_read : (ls : List Numbers) (d : Numbers) (k : ℕ) → All Short ls → k ≤ length ls → first_lines k (flat_map written ls) ≡ Ok (take k ls)
+first_read : (ls : List Numbers) (d : Numbers) (k : ℕ) → AllByRecursion Short ls → k ≤ length ls → first_lines k (flat_map written ls) ≡ Ok (take k ls)
 first_read ls d zero a h = refl
 first_read ls d (suc k) a h =
     one_line (flat_map written ls) k (take k ls) (get_or ls k d) (first_read ls d k a (omega arith))
@@ -93,7 +93,7 @@ refused_step : (o : Result (List Numbers) Report) (k : ℕ) (t : List ℕ) (e : 
 refused_step (Err d) k t e r = inl r
 refused_step (Ok ms) k t e r = let s = one_more_err ms k (numbers_in (behind t k)) e r in inr (ms, refl, s.0, s.1)
 
-all_more : (ls : List Numbers) (l : Numbers) → All Short ls → Short l → All Short (ls ++ l ∷ [])
+all_more : (ls : List Numbers) (l : Numbers) → AllByRecursion Short ls → Short l → AllByRecursion Short (ls ++ l ∷ [])
 all_more [] l a s = (s, tt)
 all_more (x ∷ ls) l a s = (a.0, all_more ls l a.1 s)
 
@@ -107,7 +107,7 @@ length-behind t k h = let n = length-drop (k * 29) t in length-take-le 29 (drop 
 
 record Front (t : List ℕ) (n : ℕ) (ls : List Numbers) : Type 0 where
   long : length ls ≡ n
-  short : All Short ls
+  short : AllByRecursion Short ls
   text : take (n * 29) t ≡ flat_map written ls
 
 front_more : (t : List ℕ) (n : ℕ) (ls : List Numbers) (l : Numbers) → Front t n ls → suc n * 29 ≤ length t → numbers_in (behind t n) ≡ Some l → Front t (suc n) (ls ++ l ∷ [])

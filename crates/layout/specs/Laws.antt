@@ -1,6 +1,6 @@
 -- Meaning: which texts are read, which are refused and where, in terms of how lines are written. Assumes nothing.
 use Rattle.std.specs.Prelude.{◌≡◌, ℕ, suc, ◌*◌, ◌<◌, ◌≤◌, true, false, ◌⊎◌, List, length, Some, None, Ok, Err, ◌≢◌}
-use Rattle.std.specs.List.{flat_map, AllByRecursion as All}
+use Rattle.std.specs.List.{flat_map, AllByRecursion}
 use Rattle.heap.specs.Faults.{Report, plain}
 use Rattle.layout.specs.declared.lines.Numbers.{Numbers}
 use Rattle.layout.specs.Lines.{written, numbers_in, Short}
@@ -8,7 +8,7 @@ use Rattle.layout.specs.Texts.{bad_length, behind, lines_of}
 
 -- the text is these lines, written one after another
 pub record TextOf (t : List ℕ) (ls : List Numbers) : Type 0 where
-  pub short : All Short ls
+  pub short : AllByRecursion Short ls
   pub text : t ≡ flat_map written ls
   pub some_line : 0 < length ls
   pub few : length ls ≤ 123
@@ -32,7 +32,7 @@ Refused t e = BadLength t e ⊎ BadLine t e
 
 -- what was written is read back
 abbrev pub TextsRead : Type 0
-TextsRead = (ls : List Numbers) → All Short ls → 0 < length ls → length ls ≤ 123 → lines_of (flat_map written ls) ≡ Ok ls
+TextsRead = (ls : List Numbers) → AllByRecursion Short ls → 0 < length ls → length ls ≤ 123 → lines_of (flat_map written ls) ≡ Ok ls
 
 -- what is read was written
 abbrev pub TextsWritten : Type 0

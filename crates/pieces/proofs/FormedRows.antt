@@ -1,6 +1,6 @@
 -- Proofs: what the rows of a well-formed routine are: they lead forward, name names, and weigh at most 8 a piece.
 use Rattle.std.proofs.Common.{◌≡◌, ℕ, zero, suc, ◌+◌, ◌-◌, ◌<◌, ◌≤◌, true, false, not, ◌&&◌, ◌||◌, eqb, ltb, leb, ◌⊎◌, List, [], ◌∷◌, ◌++◌, length, get_or, Some, sym, refl, ap, subst, inl, inr, arith}
-use Rattle.std.specs.List.{AllByRecursion as All}
+use Rattle.std.specs.List.{AllByRecursion}
 use Rattle.std.proofs.lemmas.Bool.Decides.{nat_tests}
 use Rattle.std.proofs.lemmas.List.{get_or_past}
 use Rattle.std.proofs.lemmas.Bool.{cases_eq, cases_Bool, cases_lt, and_parts, or_parts}
@@ -20,7 +20,7 @@ use Rattle.pieces.specs.ModelCases.{goes_well, Forward}
 use Rattle.pieces.specs.ModelBounds.{Small, AtomSmall, weight_from, WeighsAt}
 
 -- an entry of a list of which something holds throughout
-pub all_at : {A : Type 0} (P : A → Type 0) (xs : List A) (d : A) (i : ℕ) → All P xs → i < length xs → P (get_or xs i d)
+pub all_at : {A : Type 0} (P : A → Type 0) (xs : List A) (d : A) (i : ℕ) → AllByRecursion P xs → i < length xs → P (get_or xs i d)
 all_at P [] d i a q = absurd (omega arith)
 all_at P (x ∷ xs) d zero a q = a.0
 all_at P (x ∷ xs) d (suc i) a q = all_at P xs d i a.1 (omega arith)
@@ -77,7 +77,7 @@ module _ (s : Scope) (few : s.variables ≤ 6) (known : s.named ≤ 6) where
   atom_names (Next x y) t = let p = and_parts (allowed s Named x) _ t in let q = and_parts (allowed s Named y) _ p.1 in (name_small s few known x p.0, name_small s few known y q.0)
   atom_names (Lseg x y) t = let p = and_parts (allowed s Named x) _ t in let q = and_parts (allowed s Named y) _ p.1 in (name_small s few known x p.0, name_small s few known y q.0)
 
-  pub list_names : (l : List Atom) → All (λ a. fits s (classes_of (atom_kind a)) (atom_columns a) ≡ true) l → All AtomSmall l
+  pub list_names : (l : List Atom) → AllByRecursion (λ a. fits s (classes_of (atom_kind a)) (atom_columns a) ≡ true) l → AllByRecursion AtomSmall l
   list_names [] a = tt
   list_names (x ∷ l) a = (atom_names x a.0, list_names l a.1)
 
@@ -98,16 +98,16 @@ module _ (R : Routine) (F : WellFormed R) where
   ]
 
   -- the list of a row
-  pub row_list : (i : ℕ) → (length (list_of (get_or rows i done)) ≤ 8) × All AtomSmall (list_of (get_or rows i done))
+  pub row_list : (i : ℕ) → (length (list_of (get_or rows i done)) ≤ 8) × AllByRecursion AtomSmall (list_of (get_or rows i done))
   row_list i = elim (cases_lt i (length rows)) [
     | inl q ↦ let f = (row_formed i q).list in (f.few, list_names (scope_of R R.variables (excepted (get_or rows i done))) F.few_variables F.few_variables (list_of (get_or rows i done)) f.names)
-    | inr q ↦ let e = get_or_past rows i done q in subst (λ c. (length (list_of c) ≤ 8) × All AtomSmall (list_of c)) (sym e) (omega arith, tt)
+    | inr q ↦ let e = get_or_past rows i done q in subst (λ c. (length (list_of c) ≤ 8) × AllByRecursion AtomSmall (list_of c)) (sym e) (omega arith, tt)
   ]
 
-  pub before_names : All AtomSmall R.before
+  pub before_names : AllByRecursion AtomSmall R.before
   before_names = list_names (scope_of R R.arguments 0) F.few_variables (let a = F.few_arguments in omega arith) R.before F.before_list.names
 
-  pub after_names : All AtomSmall R.after
+  pub after_names : AllByRecursion AtomSmall R.after
   after_names = list_names (scope_of R 1 0) F.few_variables (omega arith) R.after F.after_list.names
 
   -- rows lead forward

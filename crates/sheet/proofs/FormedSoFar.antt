@@ -1,6 +1,6 @@
 -- What is known of a routine while its lines are read, and that each line that is taken adds itself to what the routine is written as.
 use Rattle.std.proofs.Common.{◌≡◌, ℕ, ◌<◌, ◌≤◌, true, false, ◌&&◌, ◌||◌, ltb, leb, List, [], ◌∷◌, ◌++◌, map, length, Option, sym, refl, ap, ◌∙◌, subst, arith}
-use Rattle.std.specs.List.{flat_map, AllByRecursion as All}
+use Rattle.std.specs.List.{flat_map, AllByRecursion}
 use Rattle.std.proofs.lemmas.List.{append_assoc, append-nil, length_push, map_push, flat_map_more}
 use Rattle.std.proofs.ByRecursion.{All-push}
 use Rattle.std.proofs.lemmas.Bool.{false≢true, or_parts, ltb-true, leb-false}
@@ -48,7 +48,7 @@ pub record Sound (s : Stage) (n : ℕ) (R : Routine) : Type 0 where
   pub begun : Begun s R n
   pub before_list : ListFormed (scope_with R.variables R.ghosts n R.arguments 0) R.before
   pub after_list : ListFormed (scope_with R.variables R.ghosts n 1 0) R.after
-  pub row_columns : All (RowFits R.variables R.ghosts n) R.rows
+  pub row_columns : AllByRecursion (RowFits R.variables R.ghosts n) R.rows
   pub few_atoms : total R ≤ 80
 
 abbrev pub at : Stage → ℕ → Routine → Progress
@@ -99,7 +99,7 @@ module _ (p : Progress) (a : Atom) where
   )
   row_more done o f r h = absurd (false≢true o)
 
-all_but_last : {A : Type 0} (P : A → Type 0) (xs : List A) (y : A) → All P (xs ++ y ∷ []) → All P xs × P y
+all_but_last : {A : Type 0} (P : A → Type 0) (xs : List A) (y : A) → AllByRecursion P (xs ++ y ∷ []) → AllByRecursion P xs × P y
 all_but_last P [] y h = (tt, h.0)
 all_but_last P (x ∷ xs) y h = let r = all_but_last P xs y h.1 in ((h.0, r.0), r.1)
 
@@ -198,7 +198,7 @@ head_line_lem Start n R v x u h =
         begun = (subst (λ w. fits (head_scope v.second) (classes_of Head) w ≡ true) e h, b.0, b.1, b.2);
         before_list = no_list _ R.before b.0;
         after_list = no_list _ R.after b.1;
-        row_columns = subst (All (RowFits v.second v.fourth v.fifth)) (sym b.2) tt;
+        row_columns = subst (AllByRecursion (RowFits v.second v.fourth v.fifth)) (sym b.2) tt;
         few_atoms = x.few_atoms;
       };
       lines = ap (λ w. line_as Head w ∷ []) (sym e);

@@ -1,6 +1,6 @@
 -- The text of a well-formed routine reads as that routine.
 use Rattle.std.proofs.Common.{◌≡◌, ℕ, ◌+◌, ◌<◌, ◌≤◌, min, true, false, ◌&&◌, ◌||◌, eqb, leb, List, [], ◌∷◌, ◌++◌, map, length, Ok, sym, refl, ap, ◌∙◌, subst, arith}
-use Rattle.std.specs.List.{flat_map, AllByRecursion as All}
+use Rattle.std.specs.List.{flat_map, AllByRecursion}
 use Rattle.std.proofs.lemmas.List.{append_assoc, append-nil, length-append, length_push, length-map}
 use Rattle.std.proofs.ByRecursion.{All-weaker, All-append, All-map}
 use Rattle.std.proofs.lemmas.Bool.{or_from, cond-true, lt-leb, lt-ltb, eq-eqb}
@@ -48,7 +48,7 @@ module _ (p : Progress) where
 
 -- the atoms of a list, where `to l` is the progress whose open list is l
 module _ (to : List Atom → Progress) (Fits : Atom → Type 0) (n : ℕ) (one : (l : List Atom) (a : Atom) → length l < n → Fits a → line_more (to l) (atom_line a) ≡ Ok (to (l ++ a ∷ []))) where
-  atoms_run : (l m : List Atom) → length l + length m ≤ n → All Fits m → Runs (to l) (map atom_line m) (to (l ++ m))
+  atoms_run : (l m : List Atom) → length l + length m ≤ n → AllByRecursion Fits m → Runs (to l) (map atom_line m) (to (l ++ m))
   atoms_run l [] h f = ap to (sym (append-nil l))
   atoms_run l (a ∷ m) h f =
       let e = length_push l a in
@@ -111,7 +111,7 @@ module _ (n : ℕ) (R : Routine) (front : List Command) where
   row_run (call x q y z s u l) f h t = (rows_and (call x q y z s u []), row_taken Call (six x q y z s u) refl h f.columns, list_run (call x q y z s u) x (λ m. refl) (λ m a. refl) (λ m. refl) l f.list t)
   row_run done f h t = (rows_and done, row_taken Done (six 0 0 0 0 0 0) refl h f.columns, refl)
 
-rows_run : (n : ℕ) (R : Routine) (front rest : List Command) → All (RowFits R.variables R.ghosts n) rest → length front + length rest ≤ n → total (with_rows R front) + atoms_behind rest ≤ 80
+rows_run : (n : ℕ) (R : Routine) (front rest : List Command) → AllByRecursion (RowFits R.variables R.ghosts n) rest → length front + length rest ≤ n → total (with_rows R front) + atoms_behind rest ≤ 80
     → Runs (at Rows n (with_rows R front)) (flat_map command_lines rest) (at Rows n (with_rows R (front ++ rest)))
 rows_run n R front [] f h t = ap (λ l. at Rows n (with_rows R l)) (sym (append-nil front))
 rows_run n R front (c ∷ rest) f h t =
@@ -130,7 +130,7 @@ head_fits own v a g n p q r s t u w x = grind (arith, nat_tests)
 abbrev row_count : Routine → ℕ
 row_count R = length R.rows
 
-fitting_rows : (R : Routine) → WellFormed R → All (RowFits R.variables R.ghosts (row_count R)) R.rows
+fitting_rows : (R : Routine) → WellFormed R → AllByRecursion (RowFits R.variables R.ghosts (row_count R)) R.rows
 fitting_rows R w = All-weaker (RowFormed R) (RowFits R.variables R.ghosts (row_count R)) (λ c f. record { columns = f.columns; list = f.list }) R.rows w.row_columns
 
 all_run : (R : Routine) → WellFormed R → Runs start (lines_for R) (at Rows (row_count R) R)
@@ -159,10 +159,10 @@ all_run R w =
 
 -- they are short, and at most 123
 module _ (s : Scope) (few : s.variables ≤ 6) (rows : s.rows ≤ 40) (names : s.named ≤ 6) where
-  short_list : (l : List Atom) → ListFormed s l → All Short (map atom_line l)
+  short_list : (l : List Atom) → ListFormed s l → AllByRecursion Short (map atom_line l)
   short_list l f = All-map Short atom_line l (All-weaker (AtomFits s) (λ a. Short (atom_line a)) (λ a g. line_short s few rows names (atom_kind a) (classes_of (atom_kind a)) (atom_columns a) g) l f.names)
 
-short_rows : (v g n : ℕ) (cs : List Command) → v ≤ 6 → n ≤ 40 → All (RowFits v g n) cs → All Short (flat_map command_lines cs)
+short_rows : (v g n : ℕ) (cs : List Command) → v ≤ 6 → n ≤ 40 → AllByRecursion (RowFits v g n) cs → AllByRecursion Short (flat_map command_lines cs)
 short_rows v g n [] h k f = tt
 short_rows v g n (c ∷ cs) h k f =
     let r = f.0 in
@@ -170,7 +170,7 @@ short_rows v g n (c ∷ cs) h k f =
     (line_short (scope_with v g n v (command_columns c).first) h k h (command_kind c) (classes_of (command_kind c)) (command_columns c) r.columns, short_list (scope_with v g n v (excepted c)) h k h (list_of c) r.list)
     (short_rows v g n cs h k f.1)
 
-short_lines : (R : Routine) → WellFormed R → All Short (lines_for R)
+short_lines : (R : Routine) → WellFormed R → AllByRecursion Short (lines_for R)
 short_lines R w =
     let n = row_count R in
     let v = w.few_variables in

@@ -1,6 +1,6 @@
 -- Meaning: what a well-formed routine is: its sizes, what its columns hold, where its rows lead, how much its pieces weigh. Assumes nothing.
 use Rattle.std.specs.Prelude.{◌≡◌, ℕ, ◌≤◌, true, List, length}
-use Rattle.std.specs.List.{AllByRecursion as All}
+use Rattle.std.specs.List.{AllByRecursion}
 use Rattle.heap.specs.declared.atoms.Atom.{Atom}
 use Rattle.sheet.specs.declared.kinds.Scope.{Scope}
 use Rattle.sheet.specs.Kinds.{classes_of, fits}
@@ -15,7 +15,7 @@ scope_of R named except = record { variables = R.variables; ghosts = R.ghosts; r
 -- at most eight atoms, over names that may stand there
 pub record ListFormed (s : Scope) (l : List Atom) : Type 0 where
   pub few : length l ≤ 8
-  pub names : All (λ a. fits s (classes_of (atom_kind a)) (atom_columns a) ≡ true) l
+  pub names : AllByRecursion (λ a. fits s (classes_of (atom_kind a)) (atom_columns a) ≡ true) l
 
 -- the variable that the list of a row may not name: the result of a call; 0 for none
 abbrev pub excepted : Command → ℕ
@@ -47,7 +47,7 @@ pub record WellFormed (R : Routine) : Type 0 where
   -- the before list names arguments, the after list variable 1
   pub before_list : ListFormed (scope_of R R.arguments 0) R.before
   pub after_list : ListFormed (scope_of R 1 0) R.after
-  pub row_columns : All (RowFormed R) R.rows
+  pub row_columns : AllByRecursion (RowFormed R) R.rows
   pub few_atoms : total R ≤ 80
   pub in_place : InPlace R.rows
   pub light : (p : ℕ) → Heavy R.rows p → ⊥

@@ -1,6 +1,6 @@
 -- Proofs: the worked sheets are as said, by computing: each is read and searched.
 use Rattle.std.proofs.Common.{◌≡◌, ℕ, Some, Ok, refl}
-use Rattle.std.specs.List.{AllByRecursion as All}
+use Rattle.std.specs.List.{AllByRecursion}
 use Rattle.std.proofs.ByRecursion.{All-weaker}
 use Rattle.layout.specs.Texts.{lines_of}
 use Rattle.sheet.specs.Reading.{reading}
@@ -25,7 +25,7 @@ as_said s (r, f) =
     let j = verdict_judged (alone s.routine) s.routine w turns s.verdict f in
     (r, j, λ v k. one_verdict (alone s.routine) s.routine v s.verdict k j)
 
-computed : All Computed sheets
+computed : AllByRecursion Computed sheets
 unfolding reading lines_of
 computed = ((refl, refl), ((refl, refl), ((refl, refl), ((refl, refl), ((refl, refl), ((refl, refl), ((refl, refl), ((refl, refl), ((refl, refl), ((refl, refl), ((refl, refl), ((refl, refl), ((refl, refl), tt)))))))))))))
 

@@ -1,6 +1,6 @@
 -- Meaning: thirteen worked sheets: the text of each, the routine that it is, and the verdict on it alone on a shelf. Assumes nothing.
 use Rattle.std.specs.Prelude.{◌≡◌, ℕ, List, [], ◌∷◌, Ok}
-use Rattle.std.specs.List.{AllByRecursion as All}
+use Rattle.std.specs.List.{AllByRecursion}
 use Rattle.heap.specs.declared.atoms.Atom.{Atom}
 use Rattle.heap.specs.declared.atoms.Atom.TheVariants.{Eq, Neq, Next, Lseg}
 use Rattle.sheet.specs.Routines.{Command, assign, load, store, new, free, jump, branch, cut, done, Routine}
@@ -111,4 +111,4 @@ AsSaid s =
     × ((v : Verdict) → Judged (alone s.routine) s.routine v → v ≡ s.verdict)
 
 abbrev pub WorkedSheets : Type 0
-WorkedSheets = All AsSaid sheets
+WorkedSheets = AllByRecursion AsSaid sheets
