@@ -1,5 +1,6 @@
 -- Meaning: the number of each problem, and what a fault says. Assumes nothing.
-use Rattle.std.specs.Prelude.{ℕ}
+use Rattle.std.specs.Prelude.{ℕ, List, ◌++◌, codes}
+use Rattle.std.specs.Fmt.{decimal}
 use Rattle.heap.specs.declared.faults.Problem.{Problem}
 use Rattle.heap.specs.declared.faults.Problem.TheVariants.{TextLength, Layout, NotDue, Operand, AtomCount, Target, Weight, OwnNumber, ShelfFull, Callee, Contract, DeadCell, FalseList, NotLive, LinkRange, NoCell, ListLength, NoPosition, NoFrame, BadValue, BeforeList, Budget, LentMemory}
 use Rattle.heap.specs.declared.faults.Fault.{Fault}
@@ -43,3 +44,11 @@ report f = record { number = number f.problem; place = f.place; kind = f.kind; r
 -- a number and a place, and nothing else
 abbrev pub plain : ℕ → ℕ → Report
 plain n p = record { number = n; place = p; kind = 0; routine = 0; row = 0 }
+
+-- a number, a place and the kind of a store, and nothing else
+abbrev pub made_by : ℕ → ℕ → ℕ → Report
+made_by k n p = record { number = n; place = p; kind = k; routine = 0; row = 0 }
+
+-- how a refusal is shown to a person: its number, its place and the kind of the store
+abbrev pub refused_text : Report → List ℕ
+refused_text r = codes "refused: " ++ (decimal r.number ++ (codes " at " ++ (decimal r.place ++ (codes ", kind " ++ decimal r.kind))))

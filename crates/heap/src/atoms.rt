@@ -4,7 +4,7 @@
 pub type Name = u8;
 
 // One statement about the values of two names, or about a part of the heap between them.
-#[derive(Clone, Copy)]
+#[derive(Clone, Copy, PartialEq, Eq, Debug)]
 pub enum Atom {
     // the values are equal
     Eq { left: Name, right: Name },

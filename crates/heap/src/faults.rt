@@ -1,40 +1,44 @@
 // Refusals: every number that a call can answer, with its place.
-ghost use Rattle.std.specs.Prelude.{◌≡◌, ℕ};
-ghost use Rattle.heap.specs.Faults.{number, report, plain};
+ghost use Rattle.std.specs.Prelude.{◌≡◌, Some};
+ghost use Rattle.heap.specs.Faults.{made_by, number, plain, refused_text, report};
 
-// Why a call refuses. `number` in specs/Faults gives each case its number.
-#[derive(Clone, Copy)]
+use std::error::Error;
+use std::fmt;
+
+// Why a call refuses. `number` in specs/Faults gives each case the number that stands beside it here.
+#[derive(Clone, Copy, PartialEq, Eq, Debug)]
 pub enum Problem {
-    TextLength,
-    Layout,
-    NotDue,
-    Operand,
-    AtomCount,
-    Target,
-    Weight,
-    OwnNumber,
-    ShelfFull,
-    Callee,
-    Contract,
-    DeadCell,
-    FalseList,
-    NotLive,
-    LinkRange,
-    NoCell,
-    ListLength,
-    NoPosition,
-    NoFrame,
-    BadValue,
-    BeforeList,
-    Budget,
-    LentMemory,
+    TextLength = 101,
+    Layout = 102,
+    NotDue = 111,
+    Operand = 112,
+    AtomCount = 113,
+    Target = 114,
+    Weight = 115,
+    OwnNumber = 121,
+    ShelfFull = 122,
+    Callee = 123,
+    Contract = 124,
+    DeadCell = 131,
+    FalseList = 132,
+    NotLive = 141,
+    LinkRange = 142,
+    NoCell = 143,
+    ListLength = 144,
+    NoPosition = 151,
+    NoFrame = 152,
+    BadValue = 153,
+    BeforeList = 154,
+    Budget = 155,
+    LentMemory = 156,
 }
 
 // A refusal: why, at which place, and, where they apply, the kind of the store, the routine and the row; those that do not are 0.
-#[derive(Clone, Copy)]
+#[derive(Clone, Copy, PartialEq, Eq, Debug)]
 pub struct Fault {
     pub problem: Problem,
     pub place: usize,
+    // a number and no enum: each make of store, also one that is not of this repository, has a number of its own
     pub kind: u16,
     pub routine: u8,
     pub row: u8,
@@ -45,10 +49,17 @@ impl Fault {
     pub fn at(problem: Problem, place: usize) -> Fault
         ensures { report result ≡ plain (number problem) place }
     {
+        Fault::of_store(0, problem, place)
+    }
+
+    // A fault of a store, which has a place and the number of the store's kind.
+    pub fn of_store(kind: u16, problem: Problem, place: usize) -> Fault
+        ensures { report result ≡ made_by kind (number problem) place }
+    {
         Fault {
             problem,
             place,
-            kind: 0,
+            kind,
             routine: 0,
             row: 0,
         }
@@ -58,30 +69,22 @@ impl Fault {
     pub fn number(&self) -> u16
         ensures { result ≡ (report self.now).number }
     {
-        match self.problem {
-            Problem::TextLength => 101,
-            Problem::Layout => 102,
-            Problem::NotDue => 111,
-            Problem::Operand => 112,
-            Problem::AtomCount => 113,
-            Problem::Target => 114,
-            Problem::Weight => 115,
-            Problem::OwnNumber => 121,
-            Problem::ShelfFull => 122,
-            Problem::Callee => 123,
-            Problem::Contract => 124,
-            Problem::DeadCell => 131,
-            Problem::FalseList => 132,
-            Problem::NotLive => 141,
-            Problem::LinkRange => 142,
-            Problem::NoCell => 143,
-            Problem::ListLength => 144,
-            Problem::NoPosition => 151,
-            Problem::NoFrame => 152,
-            Problem::BadValue => 153,
-            Problem::BeforeList => 154,
-            Problem::Budget => 155,
-            Problem::LentMemory => 156,
-        }
+        self.problem as u16
     }
 }
+
+impl fmt::Display for Fault {
+    ghost output = { λ f. Some (refused_text (report f)) };
+
+    fn fmt<W: fmt::Write>(&self, f: &mut fmt::Formatter<W>) -> fmt::Result {
+        write!(
+            f,
+            "refused: {} at {}, kind {}",
+            self.number(),
+            self.place,
+            self.kind
+        )
+    }
+}
+
+impl Error for Fault {}

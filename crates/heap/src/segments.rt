@@ -3,13 +3,6 @@ ghost use Rattle.std.specs.Prelude.{◌≡◌, true, false, ◌==◌};
 ghost use Rattle.heap.specs.Heaps.{Heap, Empty, IsLseg};
 ghost use Rattle.heap.specs.Segments.{EndIsNoCell, NilIsNoCell, Starts, Unfolds};
 
-// Whether two values are the same.
-fn same(one: u32, other: u32) -> bool
-    ensures { result ≡ (one == other) }
-{
-    one == other
-}
-
 // Whether a walk along a segment has come to its end: nothing of the segment is left exactly there.
 pub fn at_end(at: u32, end: u32) -> bool
     ensures value { result ≡ (at == end) }
@@ -19,5 +12,5 @@ pub fn at_end(at: u32, end: u32) -> bool
     ensures closed { EndIsNoCell }
     ensures nil { NilIsNoCell }
 {
-    same(at, end)
+    at == end
 }

@@ -3,7 +3,8 @@
 
 #[cfg(test)]
 mod tests {
-    use heap::{Fault, Pile, Problem};
+    use heap::{Fault, Full, Pile, Problem};
+    use std::test::Fail;
 
     #[derive(Clone, Copy, PartialEq, Eq, Debug)]
     struct Mark {
@@ -16,7 +17,7 @@ mod tests {
         let mut slots: [u16; 0] = [];
         let mut pile = Pile::over(&mut slots);
         assert_eq!(rt; pile.room(), 0);
-        assert!(rt; pile.push(7).is_err());
+        assert_eq!(rt; pile.push(7), Err(Full));
         assert_eq!(rt; pile.pop(), None);
     }
 
@@ -30,8 +31,8 @@ mod tests {
         let mut slots = [low; 1];
         let mut pile = Pile::over(&mut slots);
         assert_eq!(rt; pile.pop(), None);
-        assert!(rt; pile.push(high).is_ok());
-        assert!(rt; pile.push(low).is_err());
+        assert_eq!(rt; pile.push(high), Ok(()));
+        assert_eq!(rt; pile.push(low), Err(Full));
         assert_eq!(rt; pile.len(), 1);
         assert_eq!(rt; pile.pop(), Some(high));
         assert_eq!(rt; pile.len(), 0);
@@ -43,10 +44,10 @@ mod tests {
         let mut slots = [0u16; 3];
         {
             let mut pile = Pile::over(&mut slots);
-            assert!(rt; pile.push(4).is_ok());
-            assert!(rt; pile.push(5).is_ok());
-            assert!(rt; pile.push(6).is_ok());
-            assert!(rt; pile.push(7).is_err());
+            assert_eq!(rt; pile.push(4), Ok(()));
+            assert_eq!(rt; pile.push(5), Ok(()));
+            assert_eq!(rt; pile.push(6), Ok(()));
+            assert_eq!(rt; pile.push(7), Err(Full));
             assert_eq!(rt; pile.pop(), Some(6));
             assert_eq!(rt; pile.pop(), Some(5));
             assert_eq!(rt; pile.pop(), Some(4));
@@ -63,6 +64,16 @@ mod tests {
         assert_eq!(rt; fault.number(), 155);
         assert_eq!(rt; fault.place, 12);
         assert_eq!(rt; fault.row, 0);
+    }
+
+    #[test]
+    fn shown(rt: HostRuntime) -> Result<(), Fail> {
+        let fault = Fault::of_store(2, Problem::NotLive, 4096);
+        assert_eq!(rt; fault.number(), 141);
+        assert_eq!(rt; fault.kind, 2);
+        let text = format!(in rt.alloc(); "{fault}")?;
+        assert_eq!(rt; text.as_str(), "refused: 141 at 4096, kind 2");
+        Ok(())
     }
 
     #[test]
