@@ -1,5 +1,6 @@
 -- Proofs: the items behind an item, by indexes and by steps.
 use Rattle.std.proofs.Common.{◌≡◌, ℕ, zero, suc, ◌+◌, ◌<◌, ◌≤◌, cond, not, ◌||◌, eqb, List, [], ◌∷◌, ◌++◌, length, get_or, drop, refl, ap, ◌∙◌, inl, inr}
+use Rattle.std.specs.List.{flat_map}
 use Rattle.std.proofs.lemmas.List.{at_drop_more, at_drop_all}
 use Rattle.std.proofs.lemmas.Bool.{cases_Bool}
 use Rattle.heap.specs.declared.atoms.Atom.{Atom}
@@ -7,9 +8,9 @@ use Rattle.heap.specs.declared.atoms.Atom.TheVariants.{Eq, Neq, Next, Lseg}
 use Rattle.sheet.specs.Routines.{Command, assign, load, store, new, free, jump, branch, cut, call, done}
 use Rattle.sheet.specs.Flow.{row_at}
 use Rattle.pieces.specs.declared.shapes.Edge.TheVariants.{Dead, Cell}
-use Rattle.pieces.specs.ModelChoices.{flat, gather}
+use Rattle.pieces.specs.ModelChoices.{gather}
 use Rattle.pieces.specs.ModelCover.{is_dead}
-use Rattle.pieces.specs.ModelShapes.{Shape, set_name, add_node, new_at_lem, new_apart, set_edge}
+use Rattle.pieces.specs.ModelShapes.{Shape, set_name, add_node, fresh_at, new_apart, set_edge}
 use Rattle.pieces.specs.ModelCases.{at, nexts, cells, aim, misses}
 use Rattle.pieces.specs.ModelStages.{Stage, placing, adding, linking, running, Item, item, placed, afters}
 use Rattle.cases.specs.declared.cases.Case as code
@@ -19,7 +20,7 @@ use Rattle.cases.proofs.Laying.{item_is}
 use Rattle.cases.specs.Openings.{placings, addings, afters_by}
 use Rattle.cases.specs.Steps.{step_of, nexts_by, new_at, misses_by}
 
-flat-each : (f : Shape → List Item) (g : ℕ → Shape) (m : ℕ) → flat f (gather m (λ k. g k ∷ [])) ≡ gather m (λ k. f (g k))
+flat-each : (f : Shape → List Item) (g : ℕ → Shape) (m : ℕ) → flat_map f (gather m (λ k. g k ∷ [])) ≡ gather m (λ k. f (g k))
 flat-each f g zero = refl
 flat-each f g (suc m) = ap (λ l. f (g m) ++ l) (flat-each f g m)
 
@@ -47,17 +48,17 @@ pub behind_added : (atoms : List Atom) (k r : ℕ) (s : Shape) → length atoms 
 behind_added atoms k r s q = at_drop_all (λ l. afters [] (adding l) r s) atoms k q
 
 -- rows by their steps
-flat-touch : (f : Shape → Shape) (r : ℕ) (us : List Shape) → flat (λ c. item running c.row c.shape) (flat (λ u. at r (f u)) us) ≡ flat (λ u. item running r (f u)) us
+flat-touch : (f : Shape → Shape) (r : ℕ) (us : List Shape) → flat_map (λ c. item running c.row c.shape) (flat_map (λ u. at r (f u)) us) ≡ flat_map (λ u. item running r (f u)) us
 flat-touch f r [] = refl
 flat-touch f r (u ∷ us) = ap (λ l. item running r (f u) ++ l) (flat-touch f r us)
 
-flat-new : (x r : ℕ) (s : Shape) (m : ℕ) → flat (λ c. item running c.row c.shape) (gather m (λ j. cond (eqb j 0 || not (is_dead (s.edge j))) [] (at (suc r) (new_at_lem s x j)))) ≡ gather m (new_at x r s)
+flat-new : (x r : ℕ) (s : Shape) (m : ℕ) → flat_map (λ c. item running c.row c.shape) (gather m (λ j. cond (eqb j 0 || not (is_dead (s.edge j))) [] (at (suc r) (fresh_at s x j)))) ≡ gather m (new_at x r s)
 flat-new x r s zero = refl
 flat-new x r s (suc m) =
     let ih = flat-new x r s m in
-    elim (cases_Bool (eqb m 0 || not (is_dead (s.edge m)))) [ inl t ↦ rw t ih | inr t ↦ rw t (ap (λ l. item running (suc r) (new_at_lem s x m) ++ l) ih) ]
+    elim (cases_Bool (eqb m 0 || not (is_dead (s.edge m)))) [ inl t ↦ rw t ih | inr t ↦ rw t (ap (λ l. item running (suc r) (fresh_at s x m) ++ l) ih) ]
 
-pub by_step : (w : Command) (r : ℕ) (s : Shape) → flat (λ c. item running c.row c.shape) (nexts w r s) ≡ nexts_by (step_of w) r s
+pub by_step : (w : Command) (r : ℕ) (s : Shape) → flat_map (λ c. item running c.row c.shape) (nexts w r s) ≡ nexts_by (step_of w) r s
 by_step (assign x e) r s = refl
 by_step (load x y) r s = flat-touch (λ u. set_name u x (aim (u.edge (u.name y)))) (suc r) (cells s (s.name y))
 by_step (store x e) r s = flat-touch (λ u. set_edge u (u.name x) (Cell (u.name e))) (suc r) (cells s (s.name x))

@@ -1,7 +1,7 @@
 -- The lemmas of the crate, by what they show.
 pub mod Splits
 pub mod Laying
-pub mod Loops
+pub mod Tests
 pub mod Placing
 pub mod Behind
 pub mod Walks

@@ -9,8 +9,7 @@ use Rattle.heap.specs.declared.atoms.Atom.TheVariants.{Next}
 use Rattle.pieces.specs.declared.shapes.Edge.{Edge}
 use Rattle.pieces.specs.declared.shapes.Edge.TheVariants.{Dead, Cell, Segment}
 use Rattle.pieces.specs.Pieces.{put}
-use Rattle.pieces.specs.ModelCover.{walk, all_dead, is_dead, if_cell, covered}
-use Rattle.pieces.proofs.CoverExact.{dead_all, all_dead_from}
+use Rattle.pieces.specs.ModelCover.{walk, all_dead, if_cell, covered}
 use Rattle.cases.specs.Covers.{edges_of, Inside, Walked}
 
 pub put_set : (es : List Edge) (i : ℕ) (e : Edge) → i < length es → edges_of (set es i e) ≡ put (edges_of es) i e
@@ -62,16 +61,6 @@ spent f i j n o z e = elim (cases_Bool (eqb i j)) [
 pub walked_covers : (m : ℕ) (name : ℕ → ℕ) (l : List Atom) (r : Bool) (left : ℕ → Edge) (o : Option (ℕ → Edge)) → Walked r left o → (elim o [ None ↦ false | Some edge ↦ covered m name l edge ]) ≡ (r && covered m name l left)
 walked_covers m name l r left None w = rw w
 walked_covers m name l r left (Some edge) w = rw (w.0, w.1)
-
--- all edges are taken, or one is left
-pub one_left : (m : ℕ) (edge : ℕ → Edge) (k : ℕ) → k < m → is_dead (edge k) ≡ false → false ≡ all_dead m edge
-one_left m edge k q n = elim (cases_Bool (all_dead m edge)) [
-  | inr t ↦ sym t
-  | inl t ↦ let d = dead_all m (λ x. x) (λ x. x) m edge t k q in absurd (grind (arith, nat_tests))
-]
-
-pub none_left : (m : ℕ) (edge : ℕ → Edge) → ((k : ℕ) → k < m → is_dead (edge k) ≡ true) → true ≡ all_dead m edge
-none_left m edge f = sym (all_dead_from m (λ x. x) (λ x. x) m edge (λ k q. let d = f k q in grind (arith, nat_tests)))
 
 pub next_taken : (m : ℕ) (name : ℕ → ℕ) (l : List Atom) (a : Atom) (x y i to : ℕ) (edge left : ℕ → Edge) (r : Bool) → a ≡ Next x y → i ≡ name x → to ≡ name y → r ≡ if_cell (edge i) to → left ≡ put edge i Dead
     → covered m name (a ∷ l) edge ≡ (r && covered m name l left)

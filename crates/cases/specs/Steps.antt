@@ -1,9 +1,10 @@
 -- Model: rows as the search does them. Assumes nothing.
 use Rattle.std.specs.Prelude.{ℕ, suc, ◌<◌, ◌≤◌, Bool, true, false, cond, not, ◌||◌, List, [], ◌++◌, ◌==◌}
+use Rattle.std.specs.List.{flat_map}
 use Rattle.sheet.specs.Routines.{Command, assign, load, store, new, free, jump, branch, cut, call, done}
 use Rattle.pieces.specs.declared.shapes.Edge.TheVariants.{Dead, Cell}
-use Rattle.pieces.specs.ModelChoices.{flat, gather}
-use Rattle.pieces.specs.ModelShapes.{Shape, set_edge, set_name, new_at_lem, new_apart}
+use Rattle.pieces.specs.ModelChoices.{gather}
+use Rattle.pieces.specs.ModelShapes.{Shape, set_edge, set_name, fresh_at, new_apart}
 use Rattle.pieces.specs.ModelCover.{is_dead}
 use Rattle.pieces.specs.ModelCases.{cells, aim}
 use Rattle.pieces.specs.ModelStages.{Item, item, running}
@@ -38,11 +39,11 @@ abbrev pub runs_at : ℕ → Shape → List Item
 runs_at r s = item running r s
 
 abbrev pub touching : Step → ℕ → List Shape → List Item
-touching w r us = flat (λ u. runs_at (suc r) (act_of w u)) us
+touching w r us = flat_map (λ u. runs_at (suc r) (act_of w u)) us
 
 -- a new cell at the node j, if it is dead and not nil
 abbrev pub new_at : ℕ → ℕ → Shape → ℕ → List Item
-new_at x r s j = cond (j == 0 || not (is_dead (s.edge j))) [] (runs_at (suc r) (new_at_lem s x j))
+new_at x r s j = cond (j == 0 || not (is_dead (s.edge j))) [] (runs_at (suc r) (fresh_at s x j))
 
 -- the items behind an item at a row
 abbrev pub nexts_by : Step → ℕ → Shape → List Item

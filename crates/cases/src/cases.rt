@@ -56,10 +56,11 @@ impl Case {
         ensures row { result.row ≡ row }
         ensures stage { result.stage ≡ Stage.Placing 0 }
     {
-        let mut first = Case::blank();
-        first.row = row;
-        first.stage = Stage::Placing(0);
-        first
+        Case {
+            row,
+            stage: Stage::Placing(0),
+            ..Case::blank()
+        }
     }
 
     // The row that comes next.
@@ -77,40 +78,37 @@ impl Case {
     }
 
     // The case with a name at another node.
-    pub(crate) fn with_name(self, x: Name, node: Node) -> Case
+    pub(crate) fn with_name(mut self, x: Name, node: Node) -> Case
         requires { x < 9 }
         ensures shape { shape_of result ≡ set_name (shape_of self) x node }
         ensures row { result.row ≡ self.row }
         ensures stage { result.stage ≡ self.stage }
     {
-        let mut next = self;
-        next.names[x as usize] = node;
-        next
+        self.names[x as usize] = node;
+        self
     }
 
     // The case with another edge at a node.
-    pub(crate) fn with_edge(self, i: Node, edge: Edge) -> Case
+    pub(crate) fn with_edge(mut self, i: Node, edge: Edge) -> Case
         requires { i < 17 }
         ensures shape { shape_of result ≡ set_edge (shape_of self) i edge }
         ensures row { result.row ≡ self.row }
         ensures stage { result.stage ≡ self.stage }
     {
-        let mut next = self;
-        next.edges[i as usize] = edge;
-        next
+        self.edges[i as usize] = edge;
+        self
     }
 
     // The case with one node more.
-    pub(crate) fn with_node(self, edge: Edge) -> Case
+    pub(crate) fn with_node(mut self, edge: Edge) -> Case
         requires { self.nodes < 17 }
         ensures shape { shape_of result ≡ add_node (shape_of self) edge }
         ensures row { result.row ≡ self.row }
         ensures stage { result.stage ≡ self.stage }
     {
-        let mut next = self;
-        next.edges[self.nodes as usize] = edge;
-        next.nodes = self.nodes + 1;
-        next
+        self.edges[self.nodes as usize] = edge;
+        self.nodes += 1;
+        self
     }
 
     // The case at another stage.
@@ -119,8 +117,6 @@ impl Case {
         ensures row { result.row ≡ self.row }
         ensures stage { result.stage ≡ stage }
     {
-        let mut next = self;
-        next.stage = stage;
-        next
+        Case { stage, ..self }
     }
 }

@@ -42,28 +42,9 @@ fn none_left(edges: &[Edge; NODES], nodes: u8) -> bool
     requires { nodes ≤ 17 }
     ensures { result ≡ all_dead nodes (edges_of edges.now) }
 {
-    for k in 0..nodes {
-        if !is_dead(edges[k as usize]) {
-            return false;
-        }
-    }
-    true
-}
-
-fn is_dead(edge: Edge) -> bool
-    ensures { result ≡ is_dead edge }
-{
-    matches!(edge, Edge::Dead)
-}
-
-// Whether an edge is one cell that is linked to the node; a segment is not, since it may be longer.
-fn is_cell_to(edge: Edge, to: Node) -> bool
-    ensures { result ≡ if_cell edge to }
-{
-    match edge {
-        Edge::Cell(next) => next == to,
-        _ => false,
-    }
+    edges[..nodes as usize]
+        .iter()
+        .all(|edge| *edge == Edge::Dead)
 }
 
 // Takes the edge of a node: whether it is one cell that is linked to the other.
@@ -73,7 +54,7 @@ fn take_cell(edges: &mut [Edge; NODES], i: Node, to: Node) -> bool
     ensures taken { edges_of edges.new ≡ put (edges_of edges.old) i (Edge.Dead) }
     ensures inside { (m : ℕ) → Inside m (edges_of edges.old) → Inside m (edges_of edges.new) }
 {
-    let holds = is_cell_to(edges[i as usize], to);
+    let holds = edges[i as usize] == Edge::Cell(to);
     edges[i as usize] = Edge::Dead;
     holds
 }

@@ -16,18 +16,6 @@ use crate::piling::put;
 use heap::{Atom, Name, Pile};
 use pieces::{Edge, Node};
 
-// Whether a name is one of these.
-fn is_in(names: &[Name], x: Name) -> bool
-    ensures { result ≡ mem x names.now }
-{
-    for name in names {
-        if x == *name {
-            return true;
-        }
-    }
-    false
-}
-
 impl Case {
     // Whether two names are at one node.
     pub(crate) fn are_equal(&self, x: Name, y: Name) -> bool
@@ -44,10 +32,10 @@ impl Case {
         ensures { result ≡ clashes later.now (shape_of self.now) atom.now }
     {
         match atom {
-            Atom::Eq { left, right } => !(is_in(later, *left)
-                || (is_in(later, *right) || self.are_equal(*left, *right))),
-            Atom::Neq { left, right } => !(is_in(later, *left)
-                || (is_in(later, *right) || !self.are_equal(*left, *right))),
+            Atom::Eq { left, right } => !(later.contains(left)
+                || (later.contains(right) || self.are_equal(*left, *right))),
+            Atom::Neq { left, right } => !(later.contains(left)
+                || (later.contains(right) || !self.are_equal(*left, *right))),
             _ => false,
         }
     }
@@ -57,12 +45,7 @@ impl Case {
         requires { SmallAtoms atoms.now }
         ensures { result ≡ clash_in later.now (shape_of self.now) atoms.now }
     {
-        for atom in atoms {
-            if self.clashes_with(atom, later) {
-                return true;
-            }
-        }
-        false
+        atoms.iter().any(|atom| self.clashes_with(atom, later))
     }
 }
 

@@ -3,7 +3,7 @@ ghost use Rattle.std.specs.Prelude.{◌≡◌, ℕ, suc, ◌+◌, ◌<◌, ◌�
 ghost use Rattle.heap.specs.Piles.{capacity, entries};
 ghost use Rattle.pieces.specs.ModelCases.{aim as aim_of, cells};
 ghost use Rattle.pieces.specs.ModelCover.{is_dead};
-ghost use Rattle.pieces.specs.ModelShapes.{short, long, new_at_lem as new_cell_at, new_apart, SoundShape};
+ghost use Rattle.pieces.specs.ModelShapes.{short, long, fresh_at as new_cell_at, new_apart, SoundShape};
 ghost use Rattle.cases.specs.Items.{shape_of, Ready, LaidOn};
 ghost use Rattle.cases.specs.Steps.{act_of, misses_by, SmallStep, touching, new_at, nexts_by, weighs};
 ghost use Rattle.pieces.specs.ModelChoices.{gather};
@@ -29,8 +29,7 @@ impl Case {
         requires node { (shape_of self.now).name x < 17 }
         ensures { result ≡ is_dead ((shape_of self.now).edge ((shape_of self.now).name x)) }
     {
-        let edge = self.edges[self.names[x as usize] as usize];
-        matches!(edge, Edge::Dead)
+        self.edges[self.names[x as usize] as usize] == Edge::Dead
     }
 
     // Whether the step touches a cell that is not live.
@@ -90,9 +89,7 @@ impl Case {
         ensures row { result.row ≡ row }
         ensures stage { result.stage ≡ self.stage }
     {
-        let mut next = self;
-        next.row = row;
-        next
+        Case { row, ..self }
     }
 
     fn next_row(self) -> Case
@@ -155,8 +152,7 @@ impl Case {
         requires { j < 17 }
         ensures { result ≡ not (j == 0 || not (is_dead ((shape_of self.now).edge j))) }
     {
-        let edge = self.edges[j as usize];
-        j != 0 && matches!(edge, Edge::Dead)
+        j != 0 && self.edges[j as usize] == Edge::Dead
     }
 
     // The name at a new cell at the node, its link nil; the row is then the next.

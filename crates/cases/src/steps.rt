@@ -19,11 +19,11 @@ pub enum Step {
     Close,
 }
 
-impl Step {
+impl From<&Row> for Step {
+    ghost from_gives = { λ row step. step ≡ step_of (command_in row.now) };
+
     // The step of a row.
-    pub fn of(row: &Row) -> Step
-        ensures { result ≡ step_of (command_in row.now) }
-    {
+    fn from(row: &Row) -> Step {
         match row {
             Row::Set { into, from } => Step::Set {
                 into: *into,

@@ -1,5 +1,6 @@
 -- Proofs: before the rows, an item says what the items behind it say.
 use Rattle.std.proofs.Common.{◌≡◌, ℕ, ◌<◌, Bool, true, false, not, ◌||◌, eqb, ◌≢◌, ◌⊎◌, List, [], ◌∷◌, sym, refl, ap, ◌∙◌, subst, inl, inr, arith}
+use Rattle.std.specs.List.{flat_map}
 use mathlib.Core.Path.{fun_ext}
 use Rattle.std.proofs.lemmas.Bool.Decides.{nat_tests}
 use Rattle.std.proofs.lemmas.Bool.{cases_eq, cases_Bool}
@@ -15,7 +16,6 @@ use Rattle.heap.specs.declared.atoms.Atom.TheVariants.{Eq, Neq, Next, Lseg}
 use Rattle.heap.specs.Lists.{Holds}
 use Rattle.pieces.specs.ModelCover.{is_dead}
 use Rattle.pieces.specs.ModelChoices.{SomeOf}
-use Rattle.pieces.specs.ModelChoices.{flat}
 use Rattle.pieces.specs.ModelOpening.{place, add, clashes, clash}
 use Rattle.sheet.specs.Routines.{Command}
 use Rattle.pieces.specs.ModelStages.{placing, adding, linking, running, item, placed, laid, afters, cleared, nothing_live, Says, Saying, StagesExactly}
@@ -42,10 +42,10 @@ module _ (rows : List Command) (r : ℕ) (env : ℕ → ℕ) (h : Heap) where
   abbrev Parted : List Atom → Type 0
   Parted l = (g : Heap) × (k : Heap) × Split h g k × Holds env l k
 
-  add_to : (a : Atom) (l : List Atom) (s : Shape) (d : Parted l) → SomeOf (λ u. Fits u env d.0) (add a s) → SomeOf (Saying env h) (flat (λ u. item (adding l) r u) (add a s))
+  add_to : (a : Atom) (l : List Atom) (s : Shape) (d : Parted l) → SomeOf (λ u. Fits u env d.0) (add a s) → SomeOf (Saying env h) (flat_map (λ u. item (adding l) r u) (add a s))
   add_to a l s (g, k, sp, H) S = some_flat (Saying env h) (λ u. Fits u env g) (λ u. item (adding l) r u) (λ u F. inl (g, k, sp, F, H)) (add a s) S
 
-  add_from : (a : Atom) (l : List Atom) (s : Shape) → SomeOf (Saying env h) (flat (λ u. item (adding l) r u) (add a s)) → (d : Parted l) × SomeOf (λ u. Fits u env d.0) (add a s)
+  add_from : (a : Atom) (l : List Atom) (s : Shape) → SomeOf (Saying env h) (flat_map (λ u. item (adding l) r u) (add a s)) → (d : Parted l) × SomeOf (λ u. Fits u env d.0) (add a s)
   add_from a l s S = some_pull (λ (d : Parted l) u. Fits u env d.0) (add a s)
       (flat_some (Saying env h) (λ u. (d : Parted l) × Fits u env d.0) (λ u. item (adding l) r u) (λ u. elim [ inl (g, k, sp, F, H) ↦ ((g, k, sp, H), F) | inr n ↦ absurd n ]) (add a s) S)
 

@@ -1,9 +1,9 @@
 -- Model: how many places the pile needs, and that it is worked off. Assumes nothing.
 use Rattle.std.specs.Prelude.{◌≡◌, ℕ, zero, suc, ◌+◌, ◌-◌, ◌<◌, ◌≤◌, cond, not, ◌||◌, List, [], ◌∷◌, length, Some, ◌==◌, slice_index, slice_index_or}
+use Rattle.std.specs.List.{AllByRecursion}
 use Rattle.pieces.specs.declared.shapes.Edge.{Edge}
 use Rattle.pieces.specs.ModelShapes.{Shape}
 use Rattle.pieces.specs.ModelCover.{is_dead}
-use Rattle.pieces.specs.ModelChoices.{All_of}
 use Rattle.sheet.specs.Routines.{Command, assign, load, store, new, free, jump, branch, cut, call, done, Routine, list_of}
 use Rattle.pieces.specs.Pieces.{Contract, Opening, opening}
 use Rattle.sheet.specs.Flow.{row_at, closes}
@@ -52,7 +52,7 @@ room W running r s = for_rows (W r) (spare s.size s.edge)
 -- the items behind an item, put on the pile in its place, need no more room
 abbrev pub RoomHolds : Type 0
 RoomHolds = (rows : List Command) (W : ℕ → ℕ) → ((r : ℕ) → WeighsAt W r (row_at rows r)) → (t : Stage) (r : ℕ) (s : Shape) → Proper t s
-    → All_of (λ a. length (afters rows t r s) + room W a.stage a.row a.shape ≤ suc (room W t r s)) (afters rows t r s)
+    → AllByRecursion (λ a. length (afters rows t r s) + room W a.stage a.row a.shape ≤ suc (room W t r s)) (afters rows t r s)
 
 -- how many rows can still be ended from a case on
 abbrev pub depth : List Command → Case → ℕ
@@ -67,7 +67,7 @@ deep rows running r s = depth rows (record { row = r; shape = s })
 
 -- the pile is worked off
 abbrev pub DepthFalls : Type 0
-DepthFalls = (rows : List Command) → Forward rows → (t : Stage) (r : ℕ) (s : Shape) → Proper t s → All_of (λ a. deep rows a.stage a.row a.shape < deep rows t r s) (afters rows t r s)
+DepthFalls = (rows : List Command) → Forward rows → (t : Stage) (r : ℕ) (s : Shape) → Proper t s → AllByRecursion (λ a. deep rows a.stage a.row a.shape < deep rows t r s) (afters rows t r s)
 
 -- the names of a row are names, its targets are rows
 abbrev pub Small : ℕ → Command → Type 0

@@ -1,5 +1,6 @@
 -- Meaning: the pieces of a routine: what opens one, the states it goes through row by row, what closes it, and the verdict on them all. Assumes nothing.
-use Rattle.std.specs.Prelude.{◌≡◌, ℕ, zero, suc, ◌≤◌, Bool, false, cond, ◌||◌, ◌≢◌, ◌⊎◌, List, [], ◌∷◌, ◌++◌, Some, None, Option, ◌==◌, slice_index_or}
+use Rattle.std.specs.Prelude.{◌≡◌, ℕ, zero, suc, ◌≤◌, Bool, false, cond, ◌≢◌, ◌⊎◌, List, [], ◌∷◌, ◌++◌, Some, None, Option, ◌==◌, slice_index_or}
+use Rattle.std.specs.List.{list_any}
 use Rattle.heap.specs.Heaps.{Heap, without}
 use Rattle.heap.specs.Lists.{Holds, renamed}
 use Rattle.heap.specs.declared.atoms.Atom.{Atom}
@@ -122,8 +123,7 @@ opening callee R zero = Some (record { names = from 1 R.arguments ++ from 7 R.gh
 opening callee R (suc p) = behind callee (from 1 R.variables ++ from 7 R.ghosts) (suc (suc p)) (slice_index_or R.rows p done)
 
 abbrev pub mem : ℕ → List ℕ → Bool
-mem n [] = false
-mem n (x ∷ xs) = n == x || mem n xs
+mem n xs = list_any (λ x. x == n) xs
 
 -- a state that an opening allows: all other names are 0, and its list holds
 pub record Allowed (o : Opening) (s : State) : Type 0 where

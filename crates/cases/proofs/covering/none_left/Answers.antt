@@ -1,11 +1,12 @@
--- An edge that is left, or none.
-use Rattle.std.proofs.Common.{arith, rules}
-use Rattle.cases.specs.Covers.{edges_of}
-use Rattle.cases.proofs.Walks.{one_left, none_left}
+-- What `all` answers, over the edges of the first nodes.
+use Rattle.std.proofs.Common.{◌∙◌, rules, take, arith}
+use Rattle.std.proofs.lemmas.Iterator.{YieldsList-from_slice}
+use Rattle.std.proofs.lemmas.Iterator.Search.{all_from_yields_List}
+use Rattle.pieces.specs.ModelCover.{is_dead}
+use Rattle.cases.proofs.Tests.{all_of_first}
 use Rattle.cases.proofs.covering.none_left.Goals as goal
 
-pub returns-then-not-is_dead : goal.returns-then-not-is_dead
-returns-then-not-is_dead c = one_left c.args.nodes (edges_of c.args.edges.now) c.loop-k.k c.loop-k-test.true (search rules)
-
 pub returns : goal.returns
-returns c = none_left c.args.nodes (edges_of c.args.edges.now) (λ k q. c.loop-k.invariant k (let t = c.loop-k-test.false in omega arith))
+returns c =
+    all_from_yields_List is_dead _ _ c.all.result c.all.ensures.ran (YieldsList-from_slice (take c.args.nodes c.args.edges.now) cc) (λ x b q k. search rules)
+    ∙ all_of_first c.args.nodes c.args.edges.now (omega arith)
