@@ -79,8 +79,8 @@ module _ (m : ℕ) (val : ℕ → ℕ) (h : Heap) where
     pub off_zero : i ≢ 0
     off_zero z = f.off_nil (ap val z ∙ M.nil)
 
-    unfoldable pub open_last_lem : ((k : ℕ) → k < m → mem (val k) f.rest ≡ false) → Model m (put edge i (Segment j)) val h
-    open_last_lem none_in =
+    pub open_last : ((k : ℕ) → k < m → mem (val k) f.rest ≡ false) → Model m (put edge i (Segment j)) val h
+    open_last none_in =
         let e = dead_on i p (run_first r d) in
         give m edge val (minus h xs) M i p e xs h (put edge i (Segment j)) (λ a on. minus-in xs h a on) (λ a o. sym (minus-out xs h a o))
         (λ k b n. let x = none_in k b in let y = val_apart m edge val (minus h xs) M k i b p n in rw f.whole (grind (arith, nat_tests)))

@@ -23,7 +23,7 @@ use Rattle.pieces.proofs.ShapeModels.{cases_edge, val_apart, run_first, take, wi
 use Rattle.pieces.proofs.SegmentRuns.{split_comm, union, split_assoc, lseg_run, run_lseg}
 use Rattle.pieces.proofs.ShapeSteps.{find_val, run_end}
 use Rattle.pieces.proofs.CoverExact.{nothing, all_dead_from}
-use Rattle.pieces.proofs.LaySegment.{FirstNode, first_node, open_last_lem, with_k, from_k, close_via, dead_on, off_zero, k, apart_k, f, on_xs, run_nonzero}
+use Rattle.pieces.proofs.LaySegment.{FirstNode, first_node, open_last, with_k, from_k, close_via, dead_on, off_zero, k, apart_k, f, on_xs, run_nonzero}
 use Rattle.pieces.proofs.Choices.{some_gather, gather_some, some_flat, flat_some, some_pull}
 use Rattle.pieces.proofs.RowsExact.{sound_name, sound_apart}
 use Rattle.pieces.proofs.AtomsAdded.{eq_to, eq_from, neq_to, neq_from, next_to, next_from}
@@ -107,9 +107,9 @@ module _ (m : ℕ) (val : ℕ → ℕ) (g : Heap) (edge : ℕ → Edge) (i j : �
   on_run F = on_xs m val g edge i j xs p q d M R F
 
   lay : Model m (put edge i (Segment j)) val g ⊎ Via
-  unfolding open_last_lem k f
+  unfolding k f
   lay = elim (first_node m val (f m val g edge i j xs p q d M R).goes_on) [
-    | inl none_in ↦ inl (open_last_lem m val g edge i j xs p q d M R none_in)
+    | inl none_in ↦ inl (open_last m val g edge i j xs p q d M R none_in)
     | inr F ↦ inr (
       F.node,
       F.in_m,

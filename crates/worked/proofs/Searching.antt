@@ -5,7 +5,7 @@ use Rattle.std.proofs.lemmas.Bool.Decides.{nat_tests}
 use Rattle.heap.specs.Lists.{renamed}
 use Rattle.sheet.specs.Routines.{Command, assign, load, store, new, free, jump, branch, cut, call, done, Routine}
 use Rattle.sheet.specs.Formed.{WellFormed}
-use Rattle.pieces.specs.declared.verdicts.Verdict.{Verdict}
+use Rattle.pieces.specs.Flaws.{Verdict}
 use Rattle.pieces.specs.Pieces.{State, Contract, Opening, from, given, behind, Misses, Lives, Breaks, Keeps, Judged}
 use Rattle.pieces.specs.ModelChoices.{gather, lowest}
 use Rattle.pieces.specs.ModelShapes.{Shape}
