@@ -2,7 +2,6 @@
 pub mod Splits
 pub mod Laying
 pub mod Tests
-pub mod Placing
 pub mod Behind
 pub mod Walks
 pub mod Bare

@@ -1,5 +1,5 @@
 -- Model: what a case in memory says. Assumes nothing.
-use Rattle.std.specs.Prelude.{◌≡◌, ℕ, ◌<◌, ◌≤◌, Bool, true, false, List, ◌++◌, map, length, drop, replicate, slice_index, slice_index_or}
+use Rattle.std.specs.Prelude.{◌≡◌, ℕ, ◌<◌, ◌≤◌, Bool, true, false, List, [], ◌∷◌, ◌++◌, Some, None, Option, map, length, drop, replicate, slice_index, slice_index_or}
 use Rattle.heap.specs.declared.atoms.Atom.{Atom}
 use Rattle.pieces.specs.declared.shapes.Edge.TheVariants.{Dead}
 use Rattle.pieces.specs.ModelBounds.{AtomSmall}
@@ -46,6 +46,11 @@ item_in names atoms k = record { stage = stage_in names atoms k.stage; row = k.r
 
 abbrev pub items_in : List ℕ → List Atom → List Case → List Item
 items_in names atoms l = map (item_in names atoms) l
+
+-- what a case says, if there is one
+abbrev pub items_of : List ℕ → List Atom → Option Case → List Item
+items_of names atoms None = []
+items_of names atoms (Some k) = item_in names atoms k ∷ []
 
 -- a case whose rows are done, and which has room for a node more
 pub record Ready (k : Case) : Type 0 where

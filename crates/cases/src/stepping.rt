@@ -1,15 +1,16 @@
 // Rows done in a case.
-ghost use Rattle.std.specs.Prelude.{◌≡◌, ℕ, suc, ◌+◌, ◌<◌, ◌≤◌, true, not, ◌||◌, ◌++◌, length, ◌==◌};
+ghost use Rattle.std.specs.Prelude.{◌≡◌, ℕ, suc, ◌+◌, ◌<◌, ◌≤◌, true, not, ◌||◌, List, ◌++◌, ◌==◌};
 ghost use Rattle.heap.specs.Piles.{capacity, entries};
 ghost use Rattle.pieces.specs.ModelCases.{aim as aim_of, cells};
 ghost use Rattle.pieces.specs.ModelCover.{is_dead};
-ghost use Rattle.pieces.specs.ModelShapes.{short, long, fresh_at as new_cell_at, new_apart, SoundShape};
-ghost use Rattle.cases.specs.Items.{shape_of, Ready, LaidOn};
+ghost use Rattle.pieces.specs.ModelShapes.{short, long, new_apart, SoundShape};
+ghost use Rattle.heap.specs.declared.atoms.Atom.{Atom};
+ghost use Rattle.cases.specs.Items.{shape_of, items_of, Ready, LaidOn};
+ghost use Rattle.cases.specs.Rooms.{HasRoom};
 ghost use Rattle.cases.specs.Steps.{act_of, misses_by, SmallStep, touching, new_at, nexts_by, weighs};
-ghost use Rattle.pieces.specs.ModelChoices.{gather};
 
 use crate::cases::{Case, Stage};
-use crate::piling::put;
+use crate::piling::{put, put_each};
 use crate::steps::Step;
 use heap::{Name, Pile};
 use pieces::{Edge, Node};
@@ -130,7 +131,7 @@ fn touch(pile: &mut Pile<Case>, case: Case, step: Step, x: Name)
     requires grows { case.nodes < 17 }
     requires small { SmallStep step }
     requires name { x < 9 }
-    requires room { length (touching step case.row (cells (shape_of case) ((shape_of case).name x))) + length (entries pile.old) ≤ capacity pile.old }
+    requires room { HasRoom (touching step case.row (cells (shape_of case) ((shape_of case).name x))) pile.old }
     ensures piled { LaidOn (touching step case.row (cells (shape_of case) ((shape_of case).name x))) (entries pile.old) (entries pile.new) }
     ensures room { capacity pile.new ≡ capacity pile.old }
 {
@@ -155,16 +156,14 @@ impl Case {
         j != 0 && self.edges[j as usize] == Edge::Dead
     }
 
-    // The name at a new cell at the node, its link nil; the row is then the next.
-    fn new_at(self, x: Name, j: Node) -> Case
+    // The name at a new cell at the node, if one may be there, its link nil; the row is then the next.
+    fn new_at(self, x: Name, j: Node) -> Option<Case>
+        requires ready { Ready self }
         requires name { x < 9 }
         requires node { j < 17 }
-        requires low { self.row ≤ 41 }
-        ensures shape { shape_of result ≡ new_cell_at (shape_of self) x j }
-        ensures row { result.row ≡ suc self.row }
-        ensures stage { result.stage ≡ self.stage }
+        ensures { (names : List ℕ) (atoms : List Atom) → items_of names atoms result ≡ new_at x self.row (shape_of self) j }
     {
-        self.with_edge(j, Edge::Cell(0)).with_name(x, j).next_row()
+        self.is_spare(j).then_some(self.with_edge(j, Edge::Cell(0)).with_name(x, j).next_row())
     }
 
     // The name at a new cell at a node of its own, its link nil; the row is then the next.
@@ -182,31 +181,16 @@ impl Case {
     }
 }
 
-// A new cell at each node where it may be.
-fn new_at_nodes(pile: &mut Pile<Case>, case: Case, x: Name)
-    requires ready { Ready case }
-    requires name { x < 9 }
-    requires room { length (gather case.nodes (new_at x case.row (shape_of case))) + length (entries pile.old) ≤ capacity pile.old }
-    ensures piled { LaidOn (gather case.nodes (new_at x case.row (shape_of case))) (entries pile.old) (entries pile.new) }
-    ensures room { capacity pile.new ≡ capacity pile.old }
-{
-    for j in 0..case.nodes {
-        if case.is_spare(j) {
-            put(pile, case.new_at(x, j));
-        }
-    }
-}
-
 // A new cell: at a node of its own, or at each dead one but nil.
 fn allocate(pile: &mut Pile<Case>, case: Case, x: Name)
     requires ready { Ready case }
     requires grows { case.nodes < 17 }
     requires name { x < 9 }
-    requires room { length (nexts_by (Step.New x) case.row (shape_of case)) + length (entries pile.old) ≤ capacity pile.old }
+    requires room { HasRoom (nexts_by (Step.New x) case.row (shape_of case)) pile.old }
     ensures piled { LaidOn (nexts_by (Step.New x) case.row (shape_of case)) (entries pile.old) (entries pile.new) }
     ensures room { capacity pile.new ≡ capacity pile.old }
 {
-    new_at_nodes(pile, case, x);
+    put_each(pile, case.nodes, |j| case.new_at(x, j));
     put(pile, case.new_apart(x));
 }
 
@@ -215,7 +199,7 @@ pub(crate) fn advance(pile: &mut Pile<Case>, case: Case, step: Step)
     requires ready { Ready case }
     requires grows { weighs step ≡ true → case.nodes < 17 }
     requires small { SmallStep step }
-    requires room { length (nexts_by step case.row (shape_of case)) + length (entries pile.old) ≤ capacity pile.old }
+    requires room { HasRoom (nexts_by step case.row (shape_of case)) pile.old }
     ensures piled { LaidOn (nexts_by step case.row (shape_of case)) (entries pile.old) (entries pile.new) }
     ensures room { capacity pile.new ≡ capacity pile.old }
 {

@@ -93,12 +93,22 @@ Narrow W (adding l) r s = s.size + W r ≤ 17
 Narrow W (linking i j l) r s = s.size + W r ≤ 17
 Narrow W running r s = s.size + W r ≤ 17
 
+-- the two names of an atom
+abbrev pub left_name : Atom → ℕ
+left_name (Eq x y) = x
+left_name (Neq x y) = x
+left_name (Next x y) = x
+left_name (Lseg x y) = x
+
+abbrev pub right_name : Atom → ℕ
+right_name (Eq x y) = y
+right_name (Neq x y) = y
+right_name (Next x y) = y
+right_name (Lseg x y) = y
+
 -- the names of an atom are names
 abbrev pub AtomSmall : Atom → Type 0
-AtomSmall (Eq x y) = (x < 9) × (y < 9)
-AtomSmall (Neq x y) = (x < 9) × (y < 9)
-AtomSmall (Next x y) = (x < 9) × (y < 9)
-AtomSmall (Lseg x y) = (x < 9) × (y < 9)
+AtomSmall a = (left_name a < 9) × (right_name a < 9)
 
 -- an item that can be worked on
 pub record Ready (W : ℕ → ℕ) (it : Item) : Type 0 where

@@ -1,18 +1,8 @@
 -- One edge taken, or the end, or nothing to take.
-use Rattle.std.proofs.Common.{◌-◌, ◌<◌, length, ◌∙◌, arith, length-set, rules}
+use Rattle.std.proofs.Common.{◌<◌, length, ◌∙◌, arith, length-set, rules}
 use Rattle.pieces.specs.declared.shapes.Edge.TheVariants.{Dead}
 use Rattle.cases.proofs.covering.walk.Goals as goal
-use Rattle.cases.proofs.Walks.{stopped, died, went_on, inside_set}
-
-pub returns-then-i-to : goal.returns-then-i-to
-returns-then-i-to c =
-    let l = c.loop-step in
-    record { walked = stopped l.edges l.i (c.args.nodes - l._step) _ c.args.to l.invariant.3 c.if-i-to.true; inside = l.invariant.2 }
-
-pub returns-in-Dead : goal.returns-in-Dead
-returns-in-Dead c =
-    let l = c.loop-step in
-    record { walked = died l.edges l.i (c.args.nodes - l._step) _ c.args.to l.invariant.3 c.if-i-to.false (search rules); inside = l.invariant.2 }
+use Rattle.cases.proofs.Walks.{went_on, inside_set}
 
 pub loop-step-preserved : goal.loop-step-preserved
 loop-step-preserved c =
