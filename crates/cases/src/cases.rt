@@ -1,8 +1,5 @@
 // Cases: the entries of the pile.
-ghost use Rattle.std.specs.Prelude.{◌≡◌, ◌<◌, ◌≤◌};
-ghost use Rattle.pieces.specs.ModelShapes.{set_name, set_edge, add_node, short, long};
-ghost use Rattle.cases.specs.Items.{shape_of, row_of, stage_of, is_running, empty_case};
-ghost use Rattle.pieces.specs.ModelOpening.{bare};
+ghost use Rattle.std.specs.Prelude.{◌≤◌};
 
 use heap::Name;
 use pieces::{Edge, Node};
@@ -34,12 +31,23 @@ pub struct Case {
     pub(crate) nodes: u8,
     pub(crate) row: u8,
     pub(crate) stage: Stage,
+    ghost narrow: { nodes ≤ 17 },
 }
 
 impl Case {
+    ghost use Rattle.std.specs.Prelude.{◌≡◌, ◌<◌, replicate};
+    ghost use Rattle.pieces.specs.declared.shapes.Edge.TheVariants.{Dead};
+    ghost use Rattle.pieces.specs.ModelOpening.{bare};
+    ghost use Rattle.pieces.specs.ModelShapes.{set_name, set_edge, add_node};
+    ghost use Rattle.cases.specs.Items.{shape_of, row_of, stage_of, is_running};
+
     // A case for a list to be lent; what it holds does not matter.
     pub fn blank() -> Case
-        ensures { result ≡ empty_case 1 (Stage.Running) }
+        ensures names { result.names ≡ replicate 9 0 }
+        ensures edges { result.edges ≡ replicate 17 Dead }
+        ensures nodes { result.nodes ≡ 1 }
+        ensures row { result.row ≡ 1 }
+        ensures stage { result.stage ≡ Stage.Running }
     {
         Case {
             names: [0; NAMES],
@@ -56,11 +64,10 @@ impl Case {
         ensures row { result.row ≡ row }
         ensures stage { result.stage ≡ Stage.Placing 0 }
     {
-        Case {
-            row,
-            stage: Stage::Placing(0),
-            ..Case::blank()
-        }
+        let mut first = Case::blank();
+        first.row = row;
+        first.stage = Stage::Placing(0);
+        first
     }
 
     // The row that comes next.
@@ -112,11 +119,12 @@ impl Case {
     }
 
     // The case at another stage.
-    pub(crate) fn at_stage(self, stage: Stage) -> Case
+    pub(crate) fn at_stage(mut self, stage: Stage) -> Case
         ensures shape { shape_of result ≡ shape_of self }
         ensures row { result.row ≡ self.row }
         ensures stage { result.stage ≡ stage }
     {
-        Case { stage, ..self }
+        self.stage = stage;
+        self
     }
 }

@@ -63,7 +63,6 @@ impl Case {
     // Whether an atom holds of some of the edges that are left, which are then taken.
     fn takes(&self, atom: &Atom, edges: &mut [Edge; NODES]) -> bool
         requires sound { SoundShape (shape_of self.now) }
-        requires nodes { self.now.nodes ≤ 17 }
         requires small { AtomSmall atom.now }
         requires inside { Inside self.now.nodes (edges_of edges.old) }
         ensures taken { (l : List AtomT) → covered self.now.nodes (shape_of self.now).name (atom.now ∷ l) (edges_of edges.old) ≡ (result && covered self.now.nodes (shape_of self.now).name l (edges_of edges.new)) }
@@ -83,7 +82,6 @@ impl Case {
     // Whether the list holds of every state that the case describes: each atom in turn takes its edges, and none is left over.
     pub fn covers(&self, atoms: &[Atom]) -> bool
         requires sound { SoundShape (shape_of self.now) }
-        requires nodes { self.now.nodes ≤ 17 }
         requires small { SmallAtoms atoms.now }
         ensures { result ≡ covered self.now.nodes (shape_of self.now).name atoms.now (shape_of self.now).edge }
     {

@@ -92,7 +92,6 @@ impl Case {
     // One atom added, if it does not contradict what is there; the atoms from `next` on come behind it. Of a segment only where it starts and ends.
     fn added(self, atom: &Atom, next: u8) -> Option<Case>
         requires sound { SoundShape (shape_of self) }
-        requires nodes { self.nodes ≤ 17 }
         requires small { AtomSmall atom.now }
         ensures { (names : List ℕ) (atoms : List AtomT) → items_of names atoms result ≡ addings atom.now (drop next atoms) self.row (shape_of self) }
     {
@@ -127,7 +126,6 @@ impl Case {
 // A segment from node i to node j: straight there, or first to a node on its way; the atoms from `next` on come behind it.
 fn link(pile: &mut Pile<Case>, case: Case, i: Node, j: Node, next: u8)
     requires node { i < 17 }
-    requires nodes { case.nodes ≤ 17 }
     requires room { (atoms : List AtomT) × HasRoom (linkings i j (drop next atoms) case.row (shape_of case)) pile.old }
     ensures piled { (names : List ℕ) (atoms : List AtomT) → LaidAs names atoms (linkings i j (drop next atoms) case.row (shape_of case)) (entries pile.old) (entries pile.new) }
     ensures room { capacity pile.new ≡ capacity pile.old }
@@ -193,8 +191,7 @@ impl<'a> Opening<'a> {
 
     // The case with the atom of index k added, if that can be, or on to the rows where all are.
     fn add_next(&self, case: Case, k: u8) -> Option<Case>
-        requires sound { SoundShape (shape_of case) }
-        requires nodes { case.nodes ≤ 17 }
+        requires { SoundShape (shape_of case) }
         ensures { items_of self.now.names.now self.now.atoms.now result ≡ afters_by Step.Close (stage_in self.now.names.now self.now.atoms.now (Stage.Adding k)) case.row (shape_of case) }
     {
         match self.atoms.get(k as usize) {

@@ -36,7 +36,6 @@ impl Case {
     // Whether the step touches a cell that is not live.
     pub fn misses(&self, step: Step) -> bool
         requires sound { SoundShape (shape_of self.now) }
-        requires narrow { (shape_of self.now).size ≤ 17 }
         requires small { SmallStep step }
         ensures { result ≡ misses_by step (shape_of self.now) }
     {
@@ -51,7 +50,6 @@ impl Case {
 // What a step that touches makes of a case with a cell at its node; the row is then the next.
 fn act(case: Case, step: Step) -> Case
     requires sound { SoundShape (shape_of case) }
-    requires narrow { (shape_of case).size ≤ 17 }
     requires small { SmallStep step }
     requires low { case.row ≤ 41 }
     ensures shape { shape_of result ≡ act_of step (shape_of case) }
@@ -85,12 +83,13 @@ fn aim(edge: Edge) -> Node
 
 impl Case {
     // The case at another row.
-    fn at_row(self, row: u8) -> Case
+    fn at_row(mut self, row: u8) -> Case
         ensures shape { shape_of result ≡ shape_of self }
         ensures row { result.row ≡ row }
         ensures stage { result.stage ≡ self.stage }
     {
-        Case { row, ..self }
+        self.row = row;
+        self
     }
 
     fn next_row(self) -> Case
