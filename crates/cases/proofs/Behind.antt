@@ -7,14 +7,14 @@ use Rattle.heap.specs.declared.atoms.Atom.{Atom}
 use Rattle.heap.specs.declared.atoms.Atom.TheVariants.{Eq, Neq, Next, Lseg}
 use Rattle.sheet.specs.Routines.{Command, assign, load, store, new, free, jump, branch, cut, call, done}
 use Rattle.sheet.specs.Flow.{row_at}
-use Rattle.pieces.specs.declared.shapes.Edge.TheVariants.{Dead, Cell}
+use Rattle.pieces.specs.declared.shapes.Edge.TheVariants.{Dead}
 use Rattle.pieces.specs.ModelChoices.{gather}
 use Rattle.pieces.specs.ModelCover.{is_dead}
-use Rattle.pieces.specs.ModelShapes.{Shape, set_name, add_node, fresh_at, new_apart, set_edge}
-use Rattle.pieces.specs.ModelCases.{at, nexts, cells, aim, misses}
+use Rattle.pieces.specs.ModelShapes.{Shape, set_name, add_node, fresh_at, new_apart}
+use Rattle.pieces.specs.ModelCases.{at, nexts, cells, misses}
 use Rattle.pieces.specs.ModelStages.{Stage, placing, adding, linking, running, Item, item, placed, afters}
 use Rattle.cases.specs.Openings.{placings, afters_by}
-use Rattle.cases.specs.Steps.{step_of, nexts_by, new_at, misses_by}
+use Rattle.cases.specs.Steps.{step_of, loaded, stored, freed, nexts_by, new_at, misses_by}
 
 flat-each : (f : Shape → List Item) (g : ℕ → Shape) (m : ℕ) → flat_map f (gather m (λ k. g k ∷ [])) ≡ gather m (λ k. f (g k))
 flat-each f g zero = refl
@@ -38,10 +38,10 @@ flat-new x r s (suc m) =
 
 pub by_step : (w : Command) (r : ℕ) (s : Shape) → flat_map (λ c. item running c.row c.shape) (nexts w r s) ≡ nexts_by (step_of w) r s
 by_step (assign x e) r s = refl
-by_step (load x y) r s = flat-touch (λ u. set_name u x (aim (u.edge (u.name y)))) (suc r) (cells s (s.name y))
-by_step (store x e) r s = flat-touch (λ u. set_edge u (u.name x) (Cell (u.name e))) (suc r) (cells s (s.name x))
+by_step (load x y) r s = flat-touch (loaded x y) (suc r) (cells s (s.name y))
+by_step (store x e) r s = flat-touch (stored x e) (suc r) (cells s (s.name x))
 by_step (new x) r s = ap (λ l. item running (suc r) (new_apart s x) ++ l) (flat-new x r s s.size)
-by_step (free x) r s = flat-touch (λ u. set_edge u (u.name x) Dead) (suc r) (cells s (s.name x))
+by_step (free x) r s = flat-touch (freed x) (suc r) (cells s (s.name x))
 by_step (jump t) r s = refl
 by_step (branch e f t) r s = elim (cases_Bool (eqb (s.name e) (s.name f))) [ inl b ↦ rw b | inr b ↦ rw b ]
 by_step (cut l) r s = refl

@@ -23,7 +23,9 @@ pub enum Stage {
     Running,
 }
 
-// A shape at a row: the node of each name, the edge of each node.
+// A shape at a row: the node of each name, the edge of each node. Arrays of fixed size, and nodes as indexes: nothing is allocated.
+// That the shape is sound is said where it is needed, and not kept here: names and edges are set one by one, and it does not hold in between.
+// That a name is below 9 is said at each call too: names are the bytes of heap's atoms and sheet's rows, and a type of its own would be made and undone around each.
 #[derive(Clone, Copy)]
 pub struct Case {
     pub(crate) names: [Node; NAMES],

@@ -1,4 +1,4 @@
-// Cases laid on a pile that is known to have room.
+// Cases laid on a pile that is known to have room. How much room is said at each call: it depends on the pile and on what is to be laid there.
 ghost use Rattle.std.specs.Prelude.{◌≡◌, ℕ, ◌<◌, List, [], ◌∷◌, length};
 ghost use Rattle.heap.specs.declared.atoms.Atom.{Atom};
 ghost use Rattle.heap.specs.Piles.{capacity, entries};
