@@ -6,7 +6,7 @@ ghost use Rattle.cases.specs.Steps.{step_of};
 use heap::Name;
 use sheet::Row;
 
-// What a row does to a case; all rows that close a piece are one. It is copied, which a row with its list of atoms is not.
+// What a row does to a case; all rows that close a piece are one. Not the row itself: that carries a list of eight atoms, and a step is copied at each turn.
 // `SmallStep` stands in the contracts: an enum has no ghost fields, and a struct around it would be opened at each match.
 #[derive(Clone, Copy)]
 pub enum Step {
