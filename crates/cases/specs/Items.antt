@@ -48,7 +48,7 @@ abbrev pub items_of : List ℕ → List Atom → Option Case → List Item
 items_of names atoms None = []
 items_of names atoms (Some k) = item_in names atoms k ∷ []
 
--- a case whose rows are done, and which has room for a node more
+-- a case whose rows are done
 pub record Ready (k : Case) : Type 0 where
   pub sound : SoundShape (shape_of k)
   pub low : k.row ≤ 41

@@ -24,7 +24,7 @@ pub enum Stage {
 }
 
 // A shape at a row: the node of each name, the edge of each node. Arrays of fixed size, and nodes as indexes: nothing is allocated.
-// That the shape is sound is said where it is needed, and not kept here: names and edges are set one by one, and it does not hold in between.
+// That the shape is sound is said where it is needed, and not kept here: names and edges are set one by one, and it does not hold in between. Nor that its row is at most 41: it is the search that knows that no row behind comes up.
 // That a name is below 9 is said at each call too: names are the bytes of heap's atoms and sheet's rows, and a type of its own would be made and undone around each.
 #[derive(Clone, Copy)]
 pub struct Case {
