@@ -10,7 +10,7 @@ pub const NAMES: usize = 9;
 // How many nodes a shape has at most: nil, one for each other name, one for each row of a piece that weighs.
 pub const NODES: usize = 17;
 
-// How far the opening of a piece is done.
+// How far the opening of a piece is done. Indexes into its names and atoms, not slices of them: the lent list of cases outlives each opening.
 #[derive(Clone, Copy)]
 pub enum Stage {
     // the names from this index on are still to be placed

@@ -48,7 +48,7 @@ impl Case {
     }
 }
 
-// Where an edge leads; nil where it is dead.
+// Where an edge leads; nil, a node like any other, where it is dead, as for no row that loads.
 fn aim(edge: Edge) -> Node
     ensures { result ≡ aim_of edge }
 {
