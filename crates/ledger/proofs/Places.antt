@@ -1,14 +1,12 @@
 -- Proofs: where the record of an address stands, and what it says of the cell.
-use Rattle.std.proofs.Common.{◌≡◌, ℕ, zero, suc, ◌<◌, ◌≤◌, Bool, true, false, not, ◌&&◌, eqb, leb, List, [], ◌∷◌, length, get_or, is_some, Some, None, sym, refl, ap, arith}
+use Rattle.std.proofs.Common.{◌≡◌, ℕ, zero, suc, ◌<◌, ◌≤◌, true, false, ◌&&◌, eqb, leb, List, [], ◌∷◌, length, get_or, is_some, Some, None, sym, refl, ap, arith}
 use Rattle.std.proofs.lemmas.Bool.{eqb-true}
 use Rattle.std.proofs.lemmas.List.Recursion.{found_at, found_nowhere}
-use Rattle.std.proofs.lemmas.List.Sums.{fails_before_first, passes_at_first, prefix_len-le-length}
+use Rattle.std.proofs.lemmas.List.Sums.{fails_before_first, passes_at_first}
 use Rattle.ledger.specs.declared.records.Record.{Record}
 use Rattle.std.proofs.lemmas.Bool.Decides.{nat_tests}
+use Rattle.ledger.specs.Counts.{used_most}
 use Rattle.ledger.specs.Records.{cells, place, unused, used}
-
-pub place_most : (rs : List Record) (a : ℕ) → place rs a ≤ length rs
-place_most rs a = prefix_len-le-length (λ r. not (eqb a r.address)) rs
 
 -- the record at the place of a has the address a
 pub place_address : (rs : List Record) (a : ℕ) (d : Record) → place rs a < length rs → (get_or rs (place rs a) d).address ≡ a
@@ -37,15 +35,7 @@ record_live (r ∷ rs) (suc i) d lt low = let before = record_live rs i d (omega
 -- with an unused record there is room
 pub used_room : (rs : List Record) → place rs 0 < length rs → used rs < length rs
 used_room [] lt = absurd (omega arith)
-used_room (r ∷ rs) lt = by_test (eqb 0 r.address) refl (used_room rs)
-  where
-    most : (xs : List Record) → used xs ≤ length xs
-    most [] = omega arith
-    most (x ∷ xs) = let before = most xs in grind (arith, nat_tests)
-
-    by_test : (b : Bool) → eqb 0 r.address ≡ b → (place rs 0 < length rs → used rs < length rs) → used (r ∷ rs) < length (r ∷ rs)
-    by_test true e before = let m = most rs in grind (arith, nat_tests)
-    by_test false e before = let q = before (grind (arith, nat_tests)) in grind (arith, nat_tests)
+used_room (r ∷ rs) lt = let before = used_room rs in let most = used_most rs in grind (arith, nat_tests)
 
 -- without one there is none
 pub used-full : (rs : List Record) → length rs ≤ place rs 0 → used rs ≡ length rs

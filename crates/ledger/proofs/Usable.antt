@@ -1,19 +1,19 @@
 -- Proofs: what the lent records mean, be their number right or wrong, and what they mean after a call.
-use Rattle.std.proofs.Common.{◌≡◌, ℕ, zero, suc, ◌<◌, ◌≤◌, Bool, true, false, cond, leb, ltb, eqb, List, [], length, get_or, set, replicate, count_by, position, is_some, Some, None, Option, sym, refl, ap, ◌∙◌, ⊎_elim, arith, rules, length-set}
+use Rattle.std.proofs.Common.{◌≡◌, ℕ, zero, suc, ◌<◌, ◌≤◌, Bool, true, false, cond, leb, ltb, eqb, List, length, get_or, set, replicate, count_by, position, is_some, Some, None, Option, sym, refl, ap, ◌∙◌, ⊎_elim, arith, rules, length-set}
 use mathlib.Core.Path.{fun_ext}
 use Rattle.heap.specs.Heaps.{put, without}
 use Rattle.ledger.proofs.Changes.{cells-put, cells-without, record_cell, records_apart, sound-put, sound-without, Vacant}
 use Rattle.ledger.proofs.Places.{no_place, place_address, place_link, used-full, used_room}
 use Rattle.ledger.specs.Bounds.{cell}
 use Rattle.ledger.specs.Counts.{live_usable, live_used, nil_dead, used_most}
-use Rattle.ledger.specs.Records.{AllLive, cells, cleared, FirstDead, fitting, Found, IsCell, IsUnused, meant, Mirrors, place, size, sound, top_of, unused, usable, used, vacant}
+use Rattle.ledger.specs.Records.{AllLive, cells, cleared, FirstDead, Found, IsCell, IsUnused, meant, Mirrors, place, size, sound, top_of, unused, usable, used, vacant}
 use Rattle.ledger.specs.declared.records.Record.{Record}
 use Rattle.std.proofs.lemmas.List.Recursion.{is_sum_by}
 use Rattle.std.specs.Option.{IsSome, MatchOption}
-use Rattle.std.proofs.lemmas.Bool.{and_parts, both_ways, cases_eq, leb-true, ltb-false, ltb-true}
+use Rattle.std.proofs.lemmas.Bool.{both_ways, cases_eq, ltb-false, ltb-true}
 use Rattle.std.proofs.lemmas.Bool.Decides.{nat_tests}
 use Rattle.store.proofs.Counting.{all_live}
-use Rattle.store.proofs.Lists.{length-usable, size-is, usable-is, usable-set}
+use Rattle.store.proofs.Lists.{length-usable, size-is, size_most, usable-is, usable-set}
 use Rattle.store.specs.Meanings.{live_cells, with_heap}
 
 -- what the place of an address tells
@@ -129,15 +129,7 @@ replicate_sound zero = refl
 replicate_sound (suc n) = let before = replicate_sound n in let none = replicate_none n 0 in grind (arith, nat_tests)
 
 pub cleared_sound : (rs : List Record) → sound (usable (cleared rs)) ≡ true
-cleared_sound rs = by_test (fitting (length rs)) refl
-  where
-    wiped : (b : Bool) → sound (cond b (replicate (length rs) unused) []) ≡ true
-    wiped true = replicate_sound (length rs)
-    wiped false = refl
-
-    by_test : (b : Bool) → fitting (length rs) ≡ b → sound (usable (cond b (replicate (length rs) unused) rs)) ≡ true
-    by_test true e = wiped (fitting (length (replicate (length rs) unused)))
-    by_test false e = ap (λ b. sound (cond b rs [])) e
+cleared_sound rs = let fine = replicate_sound (length rs) in grind (arith, nat_tests)
 
 -- the count is that of the records in use
 pub count_used : (rs : List Record) → count_by (λ r. leb 1 r.address) rs ≡ used rs
@@ -147,15 +139,8 @@ count_used rs = sym (is_sum_by used (λ r. cond (leb 1 r.address) 1 0) refl (λ 
 some_dead : (rs : List Record) → sound (usable rs) ≡ true → ((a : ℕ) → 1 ≤ a → a ≤ 4095 → is_some (cells (usable rs) a) ≡ true) → ⊥
 some_dead rs fine every = go 4095 refl
   where
-    most : size (length rs) ≤ 512
-    most = by_test (fitting (length rs)) refl
-      where
-        by_test : (b : Bool) → fitting (length rs) ≡ b → cond b (length rs) 0 ≤ 512
-        by_test true f = leb-true (length rs) 512 (and_parts (leb 1 (length rs)) (leb (length rs) 512) f).1
-        by_test false f = omega arith
-
     go : (t : ℕ) → t ≡ 4095 → ⊥
-    go t e = omega (arith, live_used t (omega arith) (usable rs) fine, all_live (cells (usable rs)) t (λ a low high. every a low (omega arith)), used_most (usable rs), length-usable 512 rs, most)
+    go t e = omega (arith, live_used t (omega arith) (usable rs) fine, all_live (cells (usable rs)) t (λ a low high. every a low (omega arith)), used_most (usable rs), length-usable 512 rs, size_most 512 (length rs))
 
 -- what the search for a dead address tells
 pub first_dead : (rs : List Record) (l : ℕ) (o : Option ℕ) → MatchOption o (AllLive rs l 4096) (λ a. (l ≤ a) × (a < 4096) × (is_some (cells (usable rs) a) ≡ false) × AllLive rs l a) → MatchOption o (AllLive rs l 4096) (λ a. FirstDead rs l a)

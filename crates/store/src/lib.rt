@@ -4,9 +4,9 @@
 ghost use Rattle.std.specs.Prelude.{◌≡◌, ℕ, ◌-◌};
 ghost use Rattle.store.specs.Meanings.{Bounded, Frees, is_live, Keeps, Kinds, live_cells, Meaning, Reads, Takes, Writes};
 
-pub mod shared;
-
 use heap::Fault;
+
+pub mod shared;
 
 // Cells with links. Any number may be offered as an address or a link; no call fails but by its answer.
 // Every call keeps the kinds of the faults and the lent memory, so that its lender knows what it holds when the store ends.
