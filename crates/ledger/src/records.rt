@@ -1,4 +1,4 @@
-// A record of a ledger: an address with its link, and 0 with 0 while it is not in use.
+// A record of a ledger: an address with its link, and 0 with 0 while it is not in use. No `Option`, since that is the layout of the lent memory.
 #[derive(Clone, Copy, PartialEq, Eq, Debug)]
 pub struct Record {
     pub address: u16,

@@ -11,7 +11,7 @@ pub mod shared;
 // Cells with links. Any number may be offered as an address or a link; no call fails but by its answer.
 // Every call keeps the kinds of the faults and the lent memory, so that its lender knows what it holds when the store ends.
 pub trait Store {
-    // The number of the make.
+    // The number of the make: an open number and no enum, since anyone can write a make of store.
     const KIND: u16;
 
     // the cells, the top address and the capacity

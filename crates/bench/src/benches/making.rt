@@ -15,7 +15,7 @@ pub fn check(words: &[u16]) -> Result<(), Fault>
     shared::check::<MOST, u16>(words, <Bench<'_> as Store>::KIND)
 }
 
-// Makes all cells dead, if the words can be a bench.
+// Makes all cells dead, if the words can be a bench. Not in `shared`: at a type parameter `fill` asks that no clone fails.
 fn clear(words: &mut [u16])
     ensures { words.new ≡ cleared words.old }
 {

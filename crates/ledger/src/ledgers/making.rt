@@ -16,7 +16,7 @@ pub fn check(records: &[Record]) -> Result<(), Fault>
     shared::check::<MOST, Record>(records, <Ledger<'_> as Store>::KIND)
 }
 
-// Writes 0 and 0 into every record, if there is a right number of them.
+// Writes 0 and 0 into every record, if there is a right number of them. Not in `shared`: at a type parameter `fill` asks that no clone fails.
 fn prepare(records: &mut [Record])
     ensures { records.new ≡ cleared records.old }
 {
