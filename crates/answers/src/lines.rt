@@ -1,10 +1,10 @@
 // One line of text, piece by piece.
-ghost use Rattle.std.specs.Prelude.{◌≡◌, ℕ, ◌+◌, ◌≤◌, length};
-ghost use mathlib.Core.List.{◌++◌};
+ghost use Rattle.std.specs.Prelude.{◌≡◌, ◌+◌, ◌≤◌, [], ◌++◌, length};
 ghost use Rattle.heap.specs.Faults.{report};
 ghost use Rattle.answers.specs.Shown.{shown, answer_line};
 
-use crate::shown::{Shown, WIDTH};
+use crate::shown::Shown;
+use arrayvec::ArrayVec;
 use heap::Fault;
 use layout::column;
 
@@ -13,31 +13,24 @@ impl Shown {
     pub fn text(&self) -> &[u8]
         ensures { result.now ≡ shown self.now }
     {
-        &self.bytes[0..self.count]
+        self.bytes.as_slice()
     }
-}
 
-pub(crate) fn nothing() -> Shown
-    ensures text { shown result ≡ mathlib.Core.List.[] }
-    ensures count { result.count ≡ 0 }
-    ensures room { length result.bytes ≡ 70 }
-{
-    Shown {
-        bytes: [0; WIDTH],
-        count: 0,
+    // A line without a byte.
+    pub(crate) fn empty() -> Shown
+        ensures { shown result ≡ [] }
+    {
+        Shown {
+            bytes: ArrayVec::new(),
+        }
     }
-}
 
-pub(crate) fn add(line: &mut Shown, part: &[u8])
-    requires room { line.old.count + length part.now ≤ 70 }
-    requires size { length line.old.bytes ≡ 70 }
-    ensures text { shown line.new ≡ shown line.old ++ part.now }
-    ensures count { line.new.count ≡ line.old.count + length part.now }
-    ensures size { length line.new.bytes ≡ 70 }
-{
-    for byte in part {
-        line.bytes[line.count] = *byte;
-        line.count += 1;
+    // One piece more, for which there is room.
+    pub(crate) fn add(&mut self, part: &[u8])
+        requires { length (shown self.old) + length part.now ≤ 70 }
+        ensures { shown self.new ≡ shown self.old ++ part.now }
+    {
+        let _ = self.bytes.try_extend_from_slice(part);
     }
 }
 
@@ -45,10 +38,10 @@ pub(crate) fn add(line: &mut Shown, part: &[u8])
 pub fn answer(number: u16, place: usize) -> Shown
     ensures { shown result ≡ answer_line number place }
 {
-    let mut line = nothing();
-    add(&mut line, &column(number));
-    add(&mut line, &column(place.min(10000) as u16));
-    add(&mut line, b"\n");
+    let mut line = Shown::empty();
+    line.add(&column(number));
+    line.add(&column(place.min(10000) as u16));
+    line.add(b"\n");
     line
 }
 

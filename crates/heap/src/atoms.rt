@@ -1,4 +1,5 @@
 // The four atoms of an assertion.
+ghost use Rattle.std.specs.Prelude.{◌≡◌};
 
 // A name of a sheet: 0 is nil, 1 to 6 are variables, 7 and 8 are ghosts.
 pub type Name = u8;
@@ -14,4 +15,15 @@ pub enum Atom {
     Next { cell: Name, link: Name },
     // the cells from `from` along the links up to `to`, which is none of them
     Lseg { from: Name, to: Name },
+}
+
+// Nil equals nil: what stands in an unused place of a list.
+impl Default for Atom {
+    ghost use Rattle.heap.specs.declared.atoms.Atom.{Atom};
+
+    ghost is_default = { λ a. a ≡ Atom.Eq 0 0 };
+
+    fn default() -> Atom {
+        Atom::Eq { left: 0, right: 0 }
+    }
 }

@@ -1,5 +1,8 @@
 -- The lines of a text are read one after another, and the first broken one decides.
-use Rattle.std.proofs.Common.{◌≡◌, ℕ, zero, suc, ◌+◌, ◌-◌, ◌*◌, ◌/◌, ◌<◌, ◌≤◌, true, false, List, [], ◌∷◌, ◌++◌, length, take, drop, Some, None, Ok, Err, ap, ◌∙◌, subst, inl, inr, arith}
+use Rattle.std.specs.Simd.{first_chunks}
+use Rattle.std.proofs.lemmas.List.{drop-drop}
+use Rattle.std.proofs.Math.Nat.{zero-mul, suc-mul, add_comm}
+use Rattle.std.proofs.Common.{sym, get_or, ◌≡◌, ℕ, zero, suc, ◌*◌, ◌/◌, ◌<◌, ◌≤◌, true, false, List, [], ◌∷◌, ◌++◌, length, take, drop, Some, None, Ok, Err, ap, ◌∙◌, subst, inl, inr, arith}
 use Rattle.std.proofs.lemmas.Bool.{cases_eq, cond-false, cond-true}
 use Rattle.heap.specs.Faults.{Report, plain}
 use Rattle.layout.specs.declared.lines.Numbers.{Numbers}
@@ -29,5 +32,12 @@ unfolding lines_of
 bad_length_lem t e = cond-true (bad_length (length t)) (Err (plain 101 0)) (first_lines (length t / 29) t) e
 
 -- a line's bytes as the code cuts them
-pub part_is : (t : List ℕ) (k : ℕ) → take (k * 29 + 29 - k * 29) (drop (k * 29) t) ≡ behind t k
-part_is t k = let e : k * 29 + 29 - k * 29 ≡ 29 = omega arith in ap (λ n. take n (drop (k * 29) t)) e
+pub chunk_is : (n k : ℕ) (t : List ℕ) (i : ℕ) → i < k → get_or (first_chunks n k t) i [] ≡ take n (drop (i * n) t)
+chunk_is n zero t i h = absurd (omega arith)
+chunk_is n (suc k) t zero h = ap (λ m. take n (drop m t)) (sym (zero-mul n))
+chunk_is n (suc k) t (suc i) h =
+    chunk_is n k (drop n t) i (omega arith)
+    ∙ (ap (take n) (drop-drop (i * n) n t) ∙ ap (λ m. take n (drop m t)) (add_comm n (i * n) ∙ sym (suc-mul i n)))
+
+pub part_is : (t : List ℕ) (whole : List (List ℕ)) (k : ℕ) → whole ≡ first_chunks 29 (length t / 29) t → k < length t / 29 → get_or whole k [] ≡ behind t k
+part_is t whole k e h = ap (λ ls. get_or ls k []) e ∙ chunk_is 29 (length t / 29) t k h

@@ -9,7 +9,7 @@ use crate::columns::number;
 pub const LINE: usize = 29;
 
 // The six columns behind a line's kind.
-#[derive(Clone, Copy)]
+#[derive(Clone, Copy, PartialEq, Eq, Debug, Default)]
 pub struct Six<T> {
     pub first: T,
     pub second: T,
@@ -20,7 +20,7 @@ pub struct Six<T> {
 }
 
 // The seven numbers of a line.
-#[derive(Clone, Copy)]
+#[derive(Clone, Copy, PartialEq, Eq, Debug, Default)]
 pub struct Numbers {
     pub kind: u16,
     pub operands: Six<u16>,
@@ -38,8 +38,7 @@ pub fn line(text: &[u8], k: usize) -> Option<&[u8]>
 }
 
 // The numbers of a line; absent if its layout is broken.
-pub(crate) fn parse(bytes: &[u8]) -> Option<Numbers>
-    requires { length bytes.now ≡ 29 }
+pub(crate) fn parse(bytes: &[u8; LINE]) -> Option<Numbers>
     ensures { result ≡ numbers_in bytes.now }
 {
     let kind = number(&bytes[0..4])?;

@@ -5,8 +5,9 @@ ghost use Rattle.layout.specs.Laws.{TextOf, Refused};
 ghost use Rattle.layout.specs.Scans.{lines_in};
 ghost use Rattle.layout.specs.Texts.{lines_of};
 
-use crate::lines::{LINE, Numbers, Six, parse};
+use crate::lines::{LINE, Numbers, parse};
 use crate::scanned::{LINES, Scanned};
+use arrayvec::ArrayVec;
 use heap::{Fault, Problem};
 
 impl Scanned {
@@ -14,7 +15,7 @@ impl Scanned {
     pub fn lines(&self) -> &[Numbers]
         ensures { result.now ≡ lines_in self.now }
     {
-        &self.lines[0..self.count]
+        self.lines.as_slice()
     }
 }
 
@@ -26,24 +27,13 @@ pub fn scan(text: &[u8]) -> Result<Scanned, Fault>
     if text.is_empty() || text.len() % LINE != 0 || text.len() > LINES * LINE {
         return Err(Fault::at(Problem::TextLength, 0));
     }
-    let count = text.len() / LINE;
-    let blank = Numbers {
-        kind: 0,
-        operands: Six {
-            first: 0,
-            second: 0,
-            third: 0,
-            fourth: 0,
-            fifth: 0,
-            sixth: 0,
-        },
-    };
-    let mut lines = [blank; LINES];
-    for k in 0..count {
-        let Some(numbers) = parse(&text[k * LINE..k * LINE + LINE]) else {
+    let (whole, _) = text.as_chunks::<LINE>();
+    let mut lines = ArrayVec::new();
+    for (k, bytes) in whole.iter().enumerate() {
+        let Some(numbers) = parse(bytes) else {
             return Err(Fault::at(Problem::Layout, k + 1));
         };
-        lines[k] = numbers;
+        lines.push(numbers);
     }
-    Ok(Scanned { lines, count })
+    Ok(Scanned { lines })
 }

@@ -10,9 +10,7 @@ pub fn blank_first(text: &mut [u8]) -> Option<u8>
     ensures answer { result ≡ (if nat_le 29 (length text.old) then Some (slice_index text.old 0) else None) }
     ensures after { text.new ≡ (if nat_le 29 (length text.old) then slice_set text.old 0 32 else text.old) }
 {
-    let Some(bytes) = line(text, 1) else {
-        return None;
-    };
+    let bytes = line(text, 1)?;
     let first = bytes[0];
     text[0] = b' ';
     Some(first)
@@ -40,37 +38,27 @@ mod tests {
         assert!(rt; column(10000) == *b"****");
     }
 
-    fn is_line(text: &[u8], k: usize, bytes: &[u8]) -> bool {
-        match line(text, k) {
-            Some(found) => found == bytes,
-            None => false,
-        }
-    }
-
-    fn no_line(text: &[u8], k: usize) -> bool {
-        match line(text, k) {
-            Some(_) => false,
-            None => true,
-        }
-    }
-
     #[test]
     fn lines(rt: HostRuntime) {
         let text = *b"   1   0   0   0   0   0   0\n   2   0   0   0   0   0   0\n   3";
-        assert!(rt; no_line(&text, 0));
-        assert!(rt; is_line(&text, 1, b"   1   0   0   0   0   0   0\n"));
-        assert!(rt; is_line(&text, 2, b"   2   0   0   0   0   0   0\n"));
-        assert!(rt; no_line(&text, 3));
-        assert!(rt; no_line(&text, usize::MAX));
-        assert!(rt; no_line(&[], 1));
+        assert_eq!(rt; line(&text, 0), None);
+        assert_eq!(rt;
+            line(&text, 1),
+            Some(b"   1   0   0   0   0   0   0\n".as_slice())
+        );
+        assert_eq!(rt;
+            line(&text, 2),
+            Some(b"   2   0   0   0   0   0   0\n".as_slice())
+        );
+        assert_eq!(rt; line(&text, 3), None);
+        assert_eq!(rt; line(&text, usize::MAX), None);
+        assert_eq!(rt; line(&[], 1), None);
     }
 
-    // The number and the place of a refusal; twice 0 for a text that is read.
-    fn refusal(text: &[u8]) -> (u16, usize) {
-        match scan(text) {
-            Ok(_) => (0, 0),
-            Err(fault) => (fault.number(), fault.place),
-        }
+    // The number and the place of a refusal.
+    fn refusal(text: &[u8]) -> Option<(u16, usize)> {
+        let fault = scan(text).err()?;
+        Some((fault.number(), fault.place))
     }
 
     fn good_lines(heap: Global, count: usize) -> Result<Vec<u8>, AllocError> {
@@ -83,12 +71,12 @@ mod tests {
 
     #[test]
     fn lengths(rt: HostRuntime) -> Result<(), Fail> {
-        assert_eq!(rt; refusal(&[]), (101, 0));
-        assert_eq!(rt; refusal(&GOOD[0..28]), (101, 0));
-        assert_eq!(rt; refusal(b"   1   0  10 999   0   0   0\n "), (101, 0));
-        assert_eq!(rt; refusal(&GOOD), (0, 0));
-        assert_eq!(rt; refusal(&good_lines(rt.alloc(), 123)?), (0, 0));
-        assert_eq!(rt; refusal(&good_lines(rt.alloc(), 124)?), (101, 0));
+        assert_eq!(rt; refusal(&[]), Some((101, 0)));
+        assert_eq!(rt; refusal(&GOOD[0..28]), Some((101, 0)));
+        assert_eq!(rt; refusal(b"   1   0  10 999   0   0   0\n "), Some((101, 0)));
+        assert_eq!(rt; refusal(&GOOD), None);
+        assert_eq!(rt; refusal(&good_lines(rt.alloc(), 123)?), None);
+        assert_eq!(rt; refusal(&good_lines(rt.alloc(), 124)?), Some((101, 0)));
         Ok(())
     }
 
@@ -96,32 +84,32 @@ mod tests {
     fn broken_lines(rt: HostRuntime) {
         assert_eq!(rt;
             refusal(b"   1   0   0   0   0   0   0\n   2  01   0   0   0   0   0\n"),
-            (102, 2),
+            Some((102, 2)),
             "a leading zero"
         );
         assert_eq!(rt;
             refusal(b"   1   0   0   0   0   0   0\n   2       0   0   0   0   0\n"),
-            (102, 2),
+            Some((102, 2)),
             "four blanks"
         );
         assert_eq!(rt;
             refusal(b"   1   0   0   0   0   0   0\n   2 \t 1   0   0   0   0   0\n"),
-            (102, 2),
+            Some((102, 2)),
             "a tab"
         );
         assert_eq!(rt;
             refusal(b"   1   0   0   0   0   0   0\n   2  +1   0   0   0   0   0\n"),
-            (102, 2),
+            Some((102, 2)),
             "a sign"
         );
         assert_eq!(rt;
             refusal(b"   1   0   0   0   0   0   0\n   2   \xB1   0   0   0   0   0\n"),
-            (102, 2),
+            Some((102, 2)),
             "a byte above 127"
         );
         assert_eq!(rt;
             refusal(b"   1   0   0   0   0   0   0\n   2   0   0   0   0   0   0\r"),
-            (102, 2),
+            Some((102, 2)),
             "a carriage return"
         );
     }

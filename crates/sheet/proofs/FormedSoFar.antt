@@ -18,8 +18,8 @@ use Rattle.sheet.specs.Written.{six, line_as, atom_kind, atom_columns, atom_line
 use Rattle.sheet.specs.Formed.{ListFormed, excepted}
 use Rattle.sheet.specs.declared.drafts.Open.{Open}
 use Rattle.sheet.specs.Reading.{Progress, scope_in, open_behind, open_last, open_at, is_open, full, last_of, scope_open, scope_for, due, overfull, head_scope, at_start, at_headed, at_before, at_rows, with_atom, at_last, with_rows, with_after, with_head, atom_in_rows, atom_into, atom_for, command_for, next_by}
-use Rattle.sheet.proofs.Laying.{ends_in, last_of_lem, at_last_lem}
-use Rattle.sheet.proofs.LayingLines.{atoms_push, one_atom}
+use Rattle.sheet.proofs.LastRows.{ends_in, last_of_lem, at_last_lem}
+use Rattle.sheet.proofs.AtomCounts.{atoms_push, one_atom}
 use Rattle.sheet.proofs.LinesKept.{columns_kept, kept_by}
 
 abbrev pub scope_with : ℕ → ℕ → ℕ → ℕ → ℕ → Scope

@@ -1,24 +1,14 @@
--- What lies in a sheet is the routine that was laid there.
-use Rattle.std.proofs.Common.{◌≡◌, ◌-◌, ◌≤◌, false, List, [], ◌∷◌, map, length, take, replicate, sym, refl, ap, ◌∙◌, subst, arith}
-use mathlib.Core.Logic.{∥∥₁_elim}
-use native.Mathlib.Bridge.{le_prop}
-use lib.ListN.{length-map}
-use Rattle.std.proofs.lemmas.List.{take_at, length-append, length-replicate}
-use Rattle.heap.specs.declared.atoms.Atom.{Atom}
-use Rattle.heap.specs.declared.atoms.Atom.TheVariants.{Eq}
+-- What lies in a sheet is the routine that was laid there, and back.
+use Rattle.std.proofs.Common.{◌≡◌, false, List, [], ◌∷◌, map, sym, refl, ap, ◌∙◌, subst, arith}
+use Rattle.sheet.specs.declared.rows.Row.{Row}
 use Rattle.sheet.specs.declared.rows.Row.TheVariants as row
 use Rattle.sheet.specs.declared.sheets.Body.{Body}
 use Rattle.sheet.specs.Routines.{Command, assign, load, store, new, free, jump, branch, cut, call, done, Routine}
-use Rattle.sheet.specs.Laid.{filled, laid_list, laid_row, laid, laid_progress, list_in, command_in, routine_in}
-use Rattle.sheet.specs.Reading.{Progress}
+use Rattle.sheet.specs.Laid.{laid_row, laid, command_in, routine_in}
 use Rattle.sheet.specs.Flow.{misplaced, InPlace}
 use Rattle.sheet.specs.Formed.{WellFormed}
 use Rattle.sheet.specs.Sheets.{new_routine}
-use Rattle.sheet.specs.ModelReading.{Sized, progress_in}
 use Rattle.sheet.proofs.WeightsExact.{heavy_none}
-
-pub list_back : (l : List Atom) → list_in (laid_list l) ≡ l
-list_back l = take_at l (replicate (8 - length l) (Eq 0 0)) (length l) refl
 
 pub row_back : (c : Command) → command_in (laid_row c) ≡ c
 row_back (assign x e) = refl
@@ -28,42 +18,40 @@ row_back (new x) = refl
 row_back (free x) = refl
 row_back (jump r) = refl
 row_back (branch e f r) = refl
-row_back (cut l) = ap cut (list_back l)
-row_back (call x q y z s t l) = ap (call x q y z s t) (list_back l)
+row_back (cut l) = refl
+row_back (call x q y z s t l) = refl
 row_back done = refl
 
 rows_back : (rows : List Command) → map command_in (map laid_row rows) ≡ rows
 rows_back [] = refl
 rows_back (c ∷ cs) = let a = row_back c in let b = rows_back cs in cc
 
-rebuilt : (R : Routine) {b a : List Atom} {rs : List Command} → b ≡ R.before → a ≡ R.after → rs ≡ R.rows
-    → ◌≡◌ {A = Routine} (record { own = R.own; variables = R.variables; arguments = R.arguments; ghosts = R.ghosts; before = b; after = a; rows = rs }) R
-rebuilt R eb ea er = rw (eb, ea, er)
-
 pub routine_back : (R : Routine) → routine_in (laid R) ≡ R
 routine_back R =
-    let b = list_back R.before in
-    let a = list_back R.after in
-    let t : take (length R.rows) (filled 40 row.Done (map laid_row R.rows)) ≡ map laid_row R.rows =
-    take_at (map laid_row R.rows) (replicate (40 - length (map laid_row R.rows)) row.Done) (length R.rows) (length-map R.rows laid_row) in
-    let r : map command_in (take (length R.rows) (filled 40 row.Done (map laid_row R.rows))) ≡ R.rows = ap (map command_in) t ∙ rows_back R.rows in
-    rebuilt R b a r
+    ap (λ rs. record { own = R.own; variables = R.variables; arguments = R.arguments; ghosts = R.ghosts; before = R.before; after = R.after; rows = rs }) (rows_back R.rows)
 
-pub progress_back : (p : Progress) → progress_in (laid_progress p) ≡ p
-progress_back p = ap (λ R. record { stage = p.stage; promised = p.promised; routine = R }) (routine_back p.routine)
+row_forth : (r : Row) → laid_row (command_in r) ≡ r
+row_forth (row.Set x e) = refl
+row_forth (row.Load x y) = refl
+row_forth (row.Store x e) = refl
+row_forth (row.New x) = refl
+row_forth (row.Free x) = refl
+row_forth (row.Jump r) = refl
+row_forth (row.Branch e f r) = refl
+row_forth (row.Cut l) = refl
+row_forth (row.Call x q y z s t l) = refl
+row_forth row.Done = refl
 
-pub sized_laid : (R : Routine) → length R.rows ≤ 40 → Sized (laid R)
-sized_laid R h =
-    let m = length-map R.rows laid_row in
-    let a = length-append (map laid_row R.rows) (replicate (40 - length (map laid_row R.rows)) row.Done) in
-    let b = length-replicate (40 - length (map laid_row R.rows)) row.Done in
-    record { few = h; all = omega arith }
+pub rows_forth : (rows : List Row) → map laid_row (map command_in rows) ≡ rows
+rows_forth [] = refl
+rows_forth (r ∷ rs) = let a = row_forth r in let b = rows_forth rs in cc
+
+pub laid_back : (b : Body) → laid (routine_in b) ≡ b
+laid_back b = ap (λ rs. record { head = b.head; before = b.before; after = b.after; rows = record { items = rs } }) (rows_forth b.rows.items)
 
 -- what a sheet's type promises, of a body that is a well-formed routine laid out
-pub sealed : (R : Routine) (b : Body) → WellFormed R → b ≡ laid R → ∥ WellFormed (routine_in b) ∥₁ × (b ≡ laid (routine_in b))
-sealed R b w e =
-    let s : routine_in b ≡ R = ap routine_in e ∙ routine_back R in
-    (subst (λ S. ∥ WellFormed S ∥₁) (sym s) ∣ w ∣₁, e ∙ ap laid (sym s))
+pub sealed : (R : Routine) (b : Body) → WellFormed R → b ≡ laid R → ∥ WellFormed (routine_in b) ∥₁
+sealed R b w e = subst (λ S. ∥ WellFormed S ∥₁) (sym (ap routine_in e ∙ routine_back R)) ∣ w ∣₁
 
 new_in_place : InPlace new_routine.rows
 new_in_place i l h = let e : 1 ≡ i = omega arith in subst (λ k. misplaced new_routine.rows k ≡ false) e refl
@@ -85,12 +73,3 @@ new_formed = record {
   in_place = new_in_place;
   light = heavy_none new_routine.rows new_in_place refl;
 }
-
--- what a sheet's type says of its rows
-pub few_rows_in : (b : Body) → ∥ WellFormed (routine_in b) ∥₁ → b ≡ laid (routine_in b) → b.count ≤ 40
-few_rows_in b w e = subst (λ n. n ≤ 40) (sym (ap (λ x. x.count) e)) (∥∥₁_elim w le_prop (λ f. f.few_rows))
-
-pub rows_laid : (b : Body) → b ≡ laid (routine_in b) → take b.count b.rows ≡ map laid_row (routine_in b).rows
-rows_laid b e =
-    ap (λ x. take x.count x.rows) e
-    ∙ take_at (map laid_row (routine_in b).rows) (replicate (40 - length (map laid_row (routine_in b).rows)) row.Done) (length (routine_in b).rows) (length-map (routine_in b).rows laid_row)

@@ -1,11 +1,10 @@
+pub mod AtomCounts
 pub mod Checks
-pub mod Finishing
 pub mod FirstFault
 pub mod FormedSoFar
 pub mod KindsKnown
 pub mod LaidBack
-pub mod Laying
-pub mod LayingLines
+pub mod LastRows
 pub mod LineFaults
 pub mod LineRuns
 pub mod LinesKept
@@ -17,7 +16,6 @@ pub mod ReadsText
 pub mod Rooms
 pub mod RowPlaces
 pub mod RowsIn
-pub mod Tables
 pub mod TextReads
 pub mod WeightsExact
 pub mod WeightsPass

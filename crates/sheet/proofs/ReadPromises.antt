@@ -8,6 +8,7 @@ use Rattle.sheet.specs.Formed.{WellFormed}
 use Rattle.sheet.specs.Laid.{laid, routine_in}
 use Rattle.sheet.specs.Reading.{reading}
 use Rattle.sheet.specs.Sheets.{answered, filled_by}
+use Rattle.sheet.proofs.LaidBack.{laid_back}
 use Rattle.sheet.proofs.TextReads.{text_reads}
 
 pub answer_is : (t : List ℕ) (o : Result Routine Report) → reading t ≡ o → answered o ≡ answered (reading t)
@@ -22,8 +23,8 @@ never_refused t e R h w q =
     let r : reading t ≡ Ok R = ap reading q ∙ text_reads R w in
     let z : ◌≡◌ {A = ℕ} 0 1 = cc in omega arith
 
-pub reads_itself : (t : List ℕ) (b : Body) (R : Routine) → reading t ≡ Ok (routine_in b) → b ≡ laid (routine_in b) → WellFormed R → t ≡ text_of R → b ≡ laid R
-reads_itself t b R h l w q =
+pub reads_itself : (t : List ℕ) (b : Body) (R : Routine) → reading t ≡ Ok (routine_in b) → WellFormed R → t ≡ text_of R → b ≡ laid R
+reads_itself t b R h w q =
     let r : reading t ≡ Ok R = ap reading q ∙ text_reads R w in
     let s : routine_in b ≡ R = cc in
-    l ∙ ap laid s
+    sym (laid_back b) ∙ ap laid s

@@ -1,27 +1,30 @@
 -- The rows that lie in a body, one by one.
-use Rattle.std.proofs.Common.{◌≡◌, ℕ, suc, ◌+◌, ◌<◌, ◌≤◌, Bool, true, false, not, ◌&&◌, ◌||◌, eqb, List, length, get_or, take, drop, Some, sym, ap, ◌∙◌, add-one, arith}
+use Rattle.std.proofs.Common.{◌≡◌, ℕ, suc, ◌+◌, ◌-◌, ◌<◌, true, false, List, length, get_or, drop, Some, sym, ap, ◌∙◌, add-one, arith}
 use lib.ListN.{length-map}
-use Rattle.std.proofs.lemmas.Bool.{cond-true, cond-false, eq-eqb, ne_eqb}
-use Rattle.std.proofs.lemmas.List.{get_or-map, get_or-take, get_or_past, length-take-le, at_drop_more}
-use Rattle.sheet.specs.declared.rows.Row.TheVariants as row
+use Rattle.std.proofs.lemmas.Bool.{cond-true, cond-false}
+use Rattle.std.proofs.lemmas.List.{get_or-map, at_drop_more}
+use Rattle.sheet.specs.declared.rows.Row.{Row}
 use Rattle.sheet.specs.declared.sheets.Body.{Body}
 use Rattle.sheet.specs.Routines.{Command, done}
 use Rattle.sheet.specs.Laid.{command_in}
-use Rattle.sheet.specs.Flow.{row_at, bad_target, ends, misplaced}
+use Rattle.sheet.specs.Flow.{misplaced}
 use Rattle.sheet.specs.Reading.{first_misplaced}
-use Rattle.sheet.specs.ModelReading.{Sized, rows_in}
+use Rattle.sheet.specs.ModelReading.{rows_in}
 
-pub length-rows : (b : Body) → Sized b → length (rows_in b) ≡ b.count
-length-rows b h = length-map (take b.count b.rows) command_in ∙ length-take-le b.count b.rows (omega arith)
+pub length-rows : (b : Body) → length (rows_in b) ≡ length b.rows.items
+length-rows b = length-map b.rows.items command_in
 
-pub row_in : (b : Body) (i : ℕ) → Sized b → i < b.count → command_in (get_or b.rows i (row.Set 0 0)) ≡ get_or (rows_in b) i done
-row_in b i h l =
-    let n = length-take-le b.count b.rows (omega arith) in
-    sym (get_or-map command_in (take b.count b.rows) i (row.Set 0 0) done (omega arith)
-    ∙ ap command_in (get_or-take b.count b.rows i (row.Set 0 0) l))
+pub row_in : (b : Body) (i : ℕ) (r : Row) → i < length b.rows.items → command_in (get_or b.rows.items i r) ≡ get_or (rows_in b) i done
+row_in b i r l = sym (get_or-map command_in b.rows.items i r done l)
 
-pub row_behind : (b : Body) (i : ℕ) → Sized b → b.count ≤ i → done ≡ get_or (rows_in b) i done
-row_behind b i h l = let n = length-rows b h in sym (get_or_past (rows_in b) i done (omega arith))
+-- the row that a turn of a loop over the rows has, by its place and by its number
+pub row_now : (b : Body) (i : ℕ) (rows : List Row) (r : Row) → rows ≡ b.rows.items → i < length rows → r ≡ get_or rows i r → command_in r ≡ get_or (rows_in b) i done
+row_now b i rows r e h g =
+    let l = ap (λ xs. length xs) e in
+    ap command_in (g ∙ ap (λ xs. get_or xs i r) e) ∙ row_in b i r (omega arith)
+
+pub row_here : (b : Body) (i : ℕ) (rows : List Row) (r : Row) → rows ≡ b.rows.items → i < length rows → r ≡ get_or rows i r → command_in r ≡ get_or (rows_in b) (i + 1 - 1) done
+row_here b i rows r e h g = let n : i ≡ i + 1 - 1 = omega arith in row_now b i rows r e h g ∙ ap (λ k. get_or (rows_in b) k done) n
 
 -- the search for a misplaced row, step by step
 pub misplaced_here : (rows : List Command) (i : ℕ) → i < length rows → misplaced rows (i + 1) ≡ true → first_misplaced rows (i + 1) (drop i rows) ≡ Some (i + 1)
@@ -32,21 +35,3 @@ misplaced_later rows i h m =
     at_drop_more (first_misplaced rows (i + 1)) rows i done h
     ∙ (cond-false (misplaced rows (i + 1)) (Some (i + 1)) (first_misplaced rows (suc (i + 1)) (drop (i + 1) rows)) m
     ∙ ap (λ n. first_misplaced rows n (drop (i + 1) rows)) (sym (add-one (i + 1))))
-
--- whether a row is misplaced, from what is known of the row
-pub misplaced-by : (rows : List Command) (c : Command) (i n : ℕ) → c ≡ row_at rows i → length rows ≡ n → misplaced rows i ≡ (bad_target rows i c || (eqb i n && not (ends c)))
-misplaced-by rows c i n e l =
-    ap (λ x. bad_target rows i x || (eqb i (length rows) && not (ends x))) (sym e)
-    ∙ ap (λ m. bad_target rows i c || (eqb i m && not (ends c))) l
-
-pub misplaced_last : (rows : List Command) (c : Command) (i n : ℕ) (b : Bool) → c ≡ row_at rows i → length rows ≡ n → bad_target rows i c ≡ false → i ≡ n → b ≡ ends c → not b ≡ misplaced rows i
-misplaced_last rows c i n b e l t q f =
-    sym (misplaced-by rows c i n e l
-    ∙ (ap (λ x. x || (eqb i n && not (ends c))) t
-    ∙ (ap (λ x. x && not (ends c)) (eq-eqb i n q) ∙ ap not (sym f))))
-
-pub misplaced_inner : (rows : List Command) (c : Command) (i n : ℕ) → c ≡ row_at rows i → length rows ≡ n → bad_target rows i c ≡ false → (i ≡ n → ⊥) → eqb i n ≡ misplaced rows i
-misplaced_inner rows c i n e l t q =
-    ne_eqb i n q ∙ sym (misplaced-by rows c i n e l
-    ∙ (ap (λ x. x || (eqb i n && not (ends c))) t
-    ∙ ap (λ x. x && not (ends c)) (ne_eqb i n q)))

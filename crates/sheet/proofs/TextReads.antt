@@ -22,8 +22,8 @@ use Rattle.sheet.specs.Formed.{scope_of, ListFormed, RowFormed, WellFormed, exce
 use Rattle.sheet.specs.Laws.{TextReads}
 use Rattle.sheet.specs.Reading.{Progress, start, open_as, open_in, open_behind, open_last, is_open, full, scope_in, scope_open, scope_for, due, overfull, with_atom, with_rows, with_before, with_after, atom_in_rows, atom_into, command_for, moved, next_by, line_more, all_lines, onward, heavy_piece, refused_at, rows_tested, finished, reading}
 use Rattle.sheet.proofs.FormedSoFar.{AtomFits, RowFits, scope_with, at}
-use Rattle.sheet.proofs.Laying.{last_of_lem, at_last_lem}
-use Rattle.sheet.proofs.LayingLines.{atoms_push}
+use Rattle.sheet.proofs.LastRows.{last_of_lem, at_last_lem}
+use Rattle.sheet.proofs.AtomCounts.{atoms_push}
 use Rattle.sheet.proofs.LineFaults.{same_ok}
 use Rattle.sheet.proofs.LineRuns.{Runs, runs_append, run_lines, line_taken}
 use Rattle.sheet.proofs.LinesKept.{line_short}

@@ -1,5 +1,5 @@
 -- Meaning: the kinds of lines, the number of each, and what each of its columns may hold. Assumes nothing.
-use Rattle.std.specs.Prelude.{ℕ, Bool, cond, not, ◌&&◌, ◌||◌, List, [], ◌∷◌, Some, None, Option, ◌==◌, nat_le}
+use Rattle.std.specs.Prelude.{ℕ, Bool, not, ◌&&◌, ◌||◌, List, [], ◌∷◌, Option, ◌==◌, nat_le, find}
 use Rattle.layout.specs.declared.lines.Six.{Six}
 use Rattle.sheet.specs.declared.kinds.Kind.{Kind}
 use Rattle.sheet.specs.declared.kinds.Kind.TheVariants.{Head, Before, After, Equal, Unequal, Cell, Segment, Set, Load, Store, New, Free, Jump, Branch, Cut, Call, Done}
@@ -108,8 +108,7 @@ table = entries kinds
 
 -- the first row of a table that has the number
 abbrev pub entry_for : ℕ → List Entry → Option Entry
-entry_for n [] = None
-entry_for n (e ∷ es) = cond (e.code == n) (Some e) (entry_for n es)
+entry_for n es = find (λ e. e.code == n) es
 
 -- nil, one of the variables that may be named, or a ghost that there is
 abbrev pub nameable : Scope → ℕ → Bool

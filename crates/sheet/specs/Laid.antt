@@ -1,21 +1,14 @@
--- Meaning: how a routine lies in a sheet: behind the last atom and the last row stands one fixed value. Assumes nothing.
-use Rattle.std.specs.Prelude.{ℕ, ◌-◌, List, ◌++◌, map, length, take, replicate}
+-- Meaning: how a routine lies in a sheet: the code's rows and lists hold what the routine's rows and lists are. Assumes nothing.
+use Rattle.std.specs.Prelude.{List, map}
+use Rattle.arrayvec.specs.ArrayVec.{ArrayVec}
 use Rattle.heap.specs.declared.atoms.Atom.{Atom}
-use Rattle.heap.specs.declared.atoms.Atom.TheVariants.{Eq}
-use Rattle.sheet.specs.declared.rows.AtomList.{AtomList}
 use Rattle.sheet.specs.declared.rows.Row.{Row}
 use Rattle.sheet.specs.declared.rows.Row.TheVariants.{Set, Load, Store, New, Free, Jump, Branch, Cut, Call, Done}
 use Rattle.sheet.specs.declared.sheets.Body.{Body}
-use Rattle.sheet.specs.Routines.{Command, assign, load, store, new, free, jump, branch, cut, call, done, Routine, total}
-use Rattle.sheet.specs.declared.drafts.Draft.{Draft}
-use Rattle.sheet.specs.Reading.{Progress}
+use Rattle.sheet.specs.Routines.{Command, assign, load, store, new, free, jump, branch, cut, call, done, Routine}
 
--- a list filled up to n
-abbrev pub filled : {A : Type 0} → ℕ → A → List A → List A
-filled n x xs = xs ++ replicate (n - length xs) x
-
-abbrev pub laid_list : List Atom → AtomList
-laid_list l = record { atoms = filled 8 (Eq 0 0) l; count = length l }
+abbrev pub laid_list : List Atom → ArrayVec Atom
+laid_list l = record { items = l }
 
 abbrev pub laid_row : Command → Row
 laid_row (assign x e) = Set x e
@@ -31,23 +24,15 @@ laid_row done = Done
 
 abbrev pub laid : Routine → Body
 laid R = record {
-  own = R.own;
-  variables = R.variables;
-  arguments = R.arguments;
-  ghosts = R.ghosts;
+  head = record { own = R.own; variables = R.variables; arguments = R.arguments; ghosts = R.ghosts };
   before = laid_list R.before;
   after = laid_list R.after;
-  rows = filled 40 Done (map laid_row R.rows);
-  count = length R.rows;
+  rows = record { items = map laid_row R.rows };
 }
 
--- what the code holds of what it has read
-abbrev pub laid_progress : Progress → Draft
-laid_progress p = record { stage = p.stage; promised = p.promised; atoms = total p.routine; body = laid p.routine }
-
 -- and back: what lies in a sheet
-abbrev pub list_in : AtomList → List Atom
-list_in l = take l.count l.atoms
+abbrev pub list_in : ArrayVec Atom → List Atom
+list_in l = l.items
 
 abbrev pub command_in : Row → Command
 command_in (Set x e) = assign x e
@@ -63,11 +48,11 @@ command_in Done = done
 
 abbrev pub routine_in : Body → Routine
 routine_in b = record {
-  own = b.own;
-  variables = b.variables;
-  arguments = b.arguments;
-  ghosts = b.ghosts;
+  own = b.head.own;
+  variables = b.head.variables;
+  arguments = b.head.arguments;
+  ghosts = b.head.ghosts;
   before = list_in b.before;
   after = list_in b.after;
-  rows = map command_in (take b.count b.rows);
+  rows = map command_in b.rows.items;
 }

@@ -5,7 +5,6 @@ pub mod Flow
 pub mod Reading
 pub mod Formed
 pub mod Laws
-pub mod ModelDrafts
 pub mod Laid
 pub mod ModelReading
 pub mod Sheets

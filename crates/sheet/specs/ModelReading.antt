@@ -1,42 +1,38 @@
--- Model: what the code's loops over lines and rows have found out. Assumes nothing.
-use Rattle.std.specs.Prelude.{◌≡◌, ℕ, suc, ◌+◌, ◌-◌, ◌≤◌, max, cond, List, map, length, take, drop, Ok, nat_lt, slice_index}
+-- Model: what the code's loops over lines and rows have found out, and the room that they need. Assumes nothing.
+use Rattle.std.specs.Prelude.{◌≡◌, ℕ, suc, ◌+◌, ◌-◌, ◌<◌, ◌≤◌, max, cond, false, List, map, length, drop, Option, Result, Some, None, Ok, Err, nat_lt, slice_index}
+use Rattle.heap.specs.declared.faults.Problem.{Problem}
 use Rattle.layout.specs.declared.lines.Numbers.{Numbers}
+use Rattle.layout.specs.declared.lines.Six.{Six}
+use Rattle.sheet.specs.declared.kinds.Role.{Role}
+use Rattle.sheet.specs.declared.kinds.Role.TheVariants as role
 use Rattle.sheet.specs.declared.sheets.Body.{Body}
 use Rattle.sheet.specs.declared.drafts.Draft.{Draft}
-use Rattle.sheet.specs.Routines.{Command, assign, load, store, new, free, jump, branch, cut, call, done}
-use Rattle.sheet.specs.Reading.{Progress, start, all_lines}
-use Rattle.sheet.specs.Laid.{command_in, routine_in, laid_progress}
-
--- a body whose rows lie in their place
-pub record Sized (b : Body) : Type 0 where
-  pub few : b.count ≤ 40
-  pub all : length b.rows ≡ 40
+use Rattle.sheet.specs.Routines.{Command, assign, load, store, new, free, jump, branch, cut, call, done, total}
+use Rattle.sheet.specs.Reading.{Progress, start, all_lines, open_in, full}
+use Rattle.sheet.specs.Laid.{command_in, routine_in}
 
 abbrev pub rows_in : Body → List Command
-rows_in b = map command_in (take b.count b.rows)
+rows_in b = map command_in b.rows.items
 
 -- what a draft says
 abbrev pub progress_in : Draft → Progress
 progress_in d = record { stage = d.stage; promised = d.promised; routine = routine_in d.body }
 
--- no more rows than there is room for
-pub record Within (p : Progress) : Type 0 where
-  pub promised : p.promised ≤ 40
-  pub rows : length p.routine.rows ≤ 40
+-- there is room for what a line of the role adds
+abbrev pub RoomFor : Progress → Role → Six ℕ → Type 0
+RoomFor p role.Head v = v.fifth ≤ 40
+RoomFor p role.Before v = Unit {0}
+RoomFor p role.After v = Unit {0}
+RoomFor p role.Atom v = (full (open_in p) ≡ false) × (total p.routine < 80)
+RoomFor p role.Row v = length p.routine.rows < 40
 
--- a draft after k lines: it holds what they say, and the lines behind them decide
-pub record Reached (d : Draft) (k : ℕ) (ls : List Numbers) : Type 0 where
-  pub says : Progress
-  pub held : d ≡ laid_progress says
-  pub within : Within says
-  pub rest : all_lines says (suc k) (drop k ls) ≡ all_lines start 1 ls
+abbrev pub checked_by : Option Problem → Six ℕ → Result (Six ℕ) Problem
+checked_by None v = Ok v
+checked_by (Some w) v = Err w
 
--- a draft behind the last line
-pub record Read (d : Draft) (ls : List Numbers) : Type 0 where
-  pub says : Progress
-  pub held : d ≡ laid_progress says
-  pub within : Within says
-  pub all : all_lines start 1 ls ≡ Ok says
+-- a draft after k lines: the lines behind them decide
+abbrev pub Reached : Draft → ℕ → List Numbers → Type 0
+Reached d k ls = all_lines (progress_in d) (suc k) (drop k ls) ≡ all_lines start 1 ls
 
 -- the weight from row i on, by entries for all rows: row r has entry r - 1
 abbrev pub ahead_in : ℕ → List ℕ → ℕ → ℕ

@@ -1,27 +1,14 @@
 // Rows and lists made from the columns of lines.
-ghost use Rattle.std.specs.Prelude.{◌≡◌, ℕ, ◌<◌};
-ghost use Rattle.sheet.specs.Reading.{atom_for};
-ghost use Rattle.sheet.specs.ModelDrafts.{pushed, row_for, row_with, open_row, ShortBehind};
+ghost use Rattle.std.specs.Prelude.{◌≡◌, ◌<◌, length};
+ghost use Rattle.sheet.specs.Laid.{command_in};
+ghost use Rattle.sheet.specs.Reading.{atom_for, command_for, open_behind, with_atom};
+ghost use Rattle.sheet.specs.Routines.{list_of};
 
 use crate::drafts::Open;
 use crate::kinds::Kind;
-use crate::rows::{AtomList, LIST, Row};
-use heap::{Atom, Name};
+use crate::rows::{AtomList, Row};
+use heap::Atom;
 use layout::Six;
-
-// A list of no atoms.
-pub(crate) const EMPTY: AtomList = AtomList {
-    atoms: [Atom::Eq { left: 0, right: 0 }; LIST],
-    count: 0,
-};
-
-pub(crate) fn push(list: &mut AtomList, atom: Atom)
-    requires { list.old.count < 8 }
-    ensures { list.new ≡ pushed list.old atom }
-{
-    list.atoms[list.count as usize] = atom;
-    list.count += 1;
-}
 
 // The atom of a line; of a line that is none, whatever.
 pub(crate) fn atom_for(kind: Kind, columns: &Six<u8>) -> Atom
@@ -50,7 +37,7 @@ pub(crate) fn atom_for(kind: Kind, columns: &Six<u8>) -> Atom
 
 // The row of a line, its list still empty; of a line that is none, `Done`.
 pub(crate) fn row_for(kind: Kind, columns: &Six<u8>) -> Row
-    ensures { result ≡ row_for kind columns.now }
+    ensures { command_in result ≡ command_for kind columns.now }
 {
     let Six {
         first,
@@ -81,7 +68,9 @@ pub(crate) fn row_for(kind: Kind, columns: &Six<u8>) -> Row
             right: second,
             to: third,
         },
-        Kind::Cut => Row::Cut { list: EMPTY },
+        Kind::Cut => Row::Cut {
+            list: AtomList::new(),
+        },
         Kind::Call => Row::Call {
             into: first,
             routine: second,
@@ -89,39 +78,41 @@ pub(crate) fn row_for(kind: Kind, columns: &Six<u8>) -> Row
             second: fourth,
             first_ghost: fifth,
             second_ghost: sixth,
-            frame: EMPTY,
+            frame: AtomList::new(),
         },
         _ => Row::Done,
     }
 }
 
-// The list behind a row among so many variables, if the row has one.
-pub(crate) fn open_row(variables: u8, row: &Row) -> Option<Open>
-    ensures { result ≡ open_row variables row.now }
-{
-    match row {
-        Row::Cut { list } => Some(Open {
-            named: variables,
-            except: 0,
-            count: list.count,
-        }),
-        Row::Call { into, frame, .. } => Some(Open {
-            named: variables,
-            except: *into,
-            count: frame.count,
-        }),
-        _ => None,
+impl Row {
+    // The list behind the row among so many variables, if the row has one.
+    pub(crate) fn open(&self, variables: u8) -> Option<Open>
+        ensures { result ≡ open_behind variables (command_in self.now) }
+    {
+        match self {
+            Row::Cut { list } => Some(Open {
+                named: variables,
+                except: 0,
+                count: list.len(),
+            }),
+            Row::Call { into, frame, .. } => Some(Open {
+                named: variables,
+                except: *into,
+                count: frame.len(),
+            }),
+            _ => None,
+        }
     }
-}
 
-// One atom more in the list behind a row.
-pub(crate) fn push_behind(row: &mut Row, atom: Atom)
-    requires { ShortBehind row.old }
-    ensures { row.new ≡ row_with row.old atom }
-{
-    match row {
-        Row::Cut { list } => push(list, atom),
-        Row::Call { frame, .. } => push(frame, atom),
-        _ => {}
+    // One atom more in the list behind the row.
+    pub(crate) fn push(&mut self, atom: Atom)
+        requires { length (list_of (command_in self.old)) < 8 }
+        ensures { command_in self.new ≡ with_atom atom (command_in self.old) }
+    {
+        match self {
+            Row::Cut { list } => list.push(atom),
+            Row::Call { frame, .. } => frame.push(atom),
+            _ => {}
+        }
     }
 }

@@ -1,100 +1,85 @@
 // What a line adds to a draft, and what may be wrong with it.
-ghost use Rattle.std.specs.Prelude.{◌≡◌, ℕ, ◌<◌, ◌≤◌, true, false, Ok, Err, MatchResult};
-ghost use Rattle.sheet.specs.Reading.{full};
-ghost use Rattle.sheet.specs.ModelDrafts.{open_body, open_draft, due_draft, scope_draft, scope_line, overfull_draft, atom_body, atom_stage, with_row, headed, added, atom_added, RoomFor, wrong_draft, checked_by, taken_line};
+ghost use Rattle.std.specs.Prelude.{◌≡◌, ℕ, ◌+◌, ◌<◌, ◌≤◌, true, false, Ok, Err, MatchResult};
+ghost use Rattle.sheet.specs.Laid.{routine_in};
+ghost use Rattle.sheet.specs.Routines.{total};
+ghost use Rattle.sheet.specs.Reading.{atom_in_rows, atom_into, due, full, is_open, last_of, line_more, moved, next_by, open_in, open_last, overfull, scope_for, scope_in, wrong};
+ghost use Rattle.sheet.specs.ModelReading.{checked_by, progress_in, RoomFor, rows_in};
 
-use crate::building::{atom_for, open_row, push, push_behind, row_for};
+use crate::building::{atom_for, row_for};
 use crate::drafts::{Draft, Open, Stage};
 use crate::kinds::{Entry, Kind, Role, Scope, entry_for, operands};
-use crate::rows::Row;
-use crate::sheets::Body;
+use crate::rows::ROWS;
+use crate::sheets::{Body, Head};
 use heap::{Atom, Problem};
 use layout::{Numbers, Six};
 
 impl Body {
     // The list to which an atom would belong among the rows: the last row's, or ahead of all rows the after list.
     fn open(&self) -> Option<Open>
-        requires { self.now.count ≤ 40 }
-        ensures { result ≡ open_body self.now }
+        ensures { result ≡ open_last (routine_in self.now) (last_of (rows_in self.now)) }
     {
-        if self.count == 0 {
-            Some(Open {
+        match self.rows.as_slice().last() {
+            Some(row) => row.open(self.head.variables),
+            None => Some(Open {
                 named: 1,
                 except: 0,
-                count: self.after.count,
-            })
-        } else {
-            open_row(self.variables, &self.rows[self.count as usize - 1])
+                count: self.after.len(),
+            }),
         }
     }
 
     // One atom more among the rows: in the last row's list, or ahead of all rows in the after list.
     fn add_atom(&mut self, atom: Atom)
-        requires count { self.old.count ≤ 40 }
-        requires room { full (open_body self.old) ≡ false }
-        ensures { self.new ≡ atom_body self.old atom }
+        requires open { is_open (open_last (routine_in self.old) (last_of (rows_in self.old))) ≡ true }
+        requires room { full (open_last (routine_in self.old) (last_of (rows_in self.old))) ≡ false }
+        ensures routine { routine_in self.new ≡ atom_in_rows (routine_in self.old) atom (rows_in self.old) }
+        ensures count { total (routine_in self.new) ≡ total (routine_in self.old) + 1 }
     {
-        if self.count == 0 {
-            push(&mut self.after, atom);
-        } else {
-            push_behind(&mut self.rows[self.count as usize - 1], atom);
+        prove!(self.rows.len() <= ROWS);
+        match self.rows.pop() {
+            Some(mut row) => {
+                row.push(atom);
+                self.rows.push(row);
+            }
+            None => self.after.push(atom),
         }
-    }
-
-    fn add_row(&mut self, row: Row)
-        requires { self.old.count < 40 }
-        ensures { self.new ≡ with_row self.old row }
-    {
-        self.rows[self.count as usize] = row;
-        self.count += 1;
-    }
-
-    fn set_head(&mut self, columns: &Six<u8>)
-        ensures { self.new ≡ headed self.old columns.now }
-    {
-        self.own = columns.first;
-        self.variables = columns.second;
-        self.arguments = columns.third;
-        self.ghosts = columns.fourth;
     }
 }
 
 impl Draft {
     fn open(&self) -> Option<Open>
-        requires { self.now.body.count ≤ 40 }
-        ensures { result ≡ open_draft self.now }
+        ensures { result ≡ open_in (progress_in self.now) }
     {
         match self.stage {
             Stage::Start | Stage::Headed => None,
             Stage::BeforeList => Some(Open {
-                named: self.body.arguments,
+                named: self.body.head.arguments,
                 except: 0,
-                count: self.body.before.count,
+                count: self.body.before.len(),
             }),
             Stage::Rows => self.body.open(),
         }
     }
 
     fn is_due(&self, role: Role) -> bool
-        requires { self.now.body.count ≤ 40 }
-        ensures { result ≡ due_draft self.now role }
+        ensures { result ≡ due (progress_in self.now) role }
     {
         match (role, self.stage) {
             (Role::Head, Stage::Start) => true,
             (Role::Before, Stage::Headed) => true,
             (Role::After, Stage::BeforeList) => true,
             (Role::Atom, _) => self.open().is_some(),
-            (Role::Row, Stage::Rows) => self.body.count < self.promised,
+            (Role::Row, Stage::Rows) => self.body.rows.len() < usize::from(self.promised),
             _ => false,
         }
     }
 
     fn scope(&self, named: u8, except: u16) -> Scope
-        ensures { result ≡ scope_draft self.now named except }
+        ensures { result ≡ scope_in (progress_in self.now) named except }
     {
         Scope {
-            variables: self.body.variables,
-            ghosts: self.body.ghosts,
+            variables: self.body.head.variables,
+            ghosts: self.body.head.ghosts,
             rows: self.promised,
             named,
             except,
@@ -103,30 +88,25 @@ impl Draft {
 
     // What the columns of a line may hold. The head's own number of variables bounds its arguments; the ghosts of a call may not be its result.
     fn scope_for(&self, role: Role, values: &Six<u16>) -> Scope
-        requires { self.now.body.count ≤ 40 }
-        ensures { result ≡ scope_line self.now role values.now }
+        ensures { result ≡ scope_for (progress_in self.now) role values.now }
     {
         match role {
             Role::Head => Scope {
                 variables: values.second.min(6) as u8,
-                ghosts: 0,
-                rows: 0,
-                named: 0,
-                except: 0,
+                ..Scope::default()
             },
             Role::Before | Role::After => self.scope(0, 0),
             Role::Atom => match self.open() {
-                Some(open) => self.scope(open.named, open.except as u16),
+                Some(open) => self.scope(open.named, u16::from(open.except)),
                 None => self.scope(0, 0),
             },
-            Role::Row => self.scope(self.body.variables, values.first),
+            Role::Row => self.scope(self.body.head.variables, values.first),
         }
     }
 
     // Whether one atom more is too many for its list or for the sheet.
     fn is_overfull(&self, role: Role) -> bool
-        requires { self.now.body.count ≤ 40 }
-        ensures { result ≡ overfull_draft self.now role }
+        ensures { result ≡ overfull (progress_in self.now) role }
     {
         match (role, self.open()) {
             (Role::Atom, Some(open)) => open.count >= 8 || self.atoms >= 80,
@@ -137,64 +117,63 @@ impl Draft {
 
     // The first that is wrong with a line of a known kind; its columns if nothing is.
     fn checked(&self, entry: &Entry, values: &Six<u16>) -> Result<Six<u8>, Problem>
-        requires { self.now.body.count ≤ 40 }
-        ensures { result ≡ checked_by (wrong_draft self.now entry.now values.now) values.now }
+        ensures { result ≡ checked_by (wrong (progress_in self.now) entry.now values.now) values.now }
     {
         if !self.is_due(entry.role) {
             return Err(Problem::NotDue);
         }
         let scope = self.scope_for(entry.role, values);
-        let Some(columns) = operands(&scope, &entry.classes, values) else {
-            return Err(Problem::Operand);
-        };
+        let columns = operands(&scope, &entry.classes, values).ok_or(Problem::Operand)?;
         if self.is_overfull(entry.role) {
             return Err(Problem::AtomCount);
         }
         Ok(columns)
     }
 
+    // What an atom line adds.
     fn add_atom(&mut self, atom: Atom)
-        requires count { self.old.body.count ≤ 40 }
-        requires room { full (open_draft self.old) ≡ false }
+        requires open { is_open (open_in (progress_in self.old)) ≡ true }
+        requires room { full (open_in (progress_in self.old)) ≡ false }
         requires few { self.old.atoms < 80 }
-        ensures { self.new ≡ atom_added self.old atom }
+        ensures { progress_in self.new ≡ moved (progress_in self.old) self.old.stage (atom_into self.old.stage (routine_in self.old.body) atom) }
     {
-        match self.stage {
-            Stage::Start | Stage::Headed => {}
-            Stage::BeforeList => push(&mut self.body.before, atom),
-            Stage::Rows => self.body.add_atom(atom),
+        if matches!(self.stage, Stage::Rows) {
+            self.body.add_atom(atom);
+        } else {
+            self.body.before.push(atom);
         }
         self.atoms += 1;
     }
 
     // What a line adds.
     fn add(&mut self, role: Role, kind: Kind, columns: &Six<u8>)
-        requires count { self.old.body.count ≤ 40 }
-        requires room { RoomFor self.old role }
-        ensures { self.new ≡ added role self.old kind columns.now }
+        requires due { due (progress_in self.old) role ≡ true }
+        requires room { RoomFor (progress_in self.old) role columns.now }
+        ensures { progress_in self.new ≡ next_by role (progress_in self.old) kind columns.now }
     {
         match role {
             Role::Head => {
                 self.stage = Stage::Headed;
                 self.promised = columns.fifth;
-                self.body.set_head(columns);
+                self.body.head = Head {
+                    own: columns.first,
+                    variables: columns.second,
+                    arguments: columns.third,
+                    ghosts: columns.fourth,
+                };
             }
             Role::Before => self.stage = Stage::BeforeList,
             Role::After => self.stage = Stage::Rows,
             Role::Atom => self.add_atom(atom_for(kind, columns)),
-            Role::Row => self.body.add_row(row_for(kind, columns)),
+            Role::Row => self.body.rows.push(row_for(kind, columns)),
         }
     }
 
     // Takes one line, or says what is wrong with it and leaves the draft as it was.
     pub(crate) fn take(&mut self, line: &Numbers) -> Result<(), Problem>
-        requires count { self.old.body.count ≤ 40 }
-        requires promised { self.old.promised ≤ 40 }
-        ensures { MatchResult result (λ _. taken_line self.old line.now ≡ Ok self.new) (λ w. (taken_line self.old line.now ≡ Err w) × (self.new ≡ self.old)) }
+        ensures { MatchResult result (λ _. line_more (progress_in self.old) line.now ≡ Ok (progress_in self.new)) (λ w. (line_more (progress_in self.old) line.now ≡ Err w) × (self.new ≡ self.old)) }
     {
-        let Some(entry) = entry_for(line.kind) else {
-            return Err(Problem::NotDue);
-        };
+        let entry = entry_for(line.kind).ok_or(Problem::NotDue)?;
         let columns = self.checked(&entry, &line.operands)?;
         self.add(entry.role, entry.kind, &columns);
         Ok(())

@@ -1,8 +1,12 @@
 // A sheet that is being read, line by line.
+ghost use Rattle.std.specs.Prelude.{◌≡◌, ◌≤◌};
+ghost use Rattle.sheet.specs.Laid.{routine_in};
+ghost use Rattle.sheet.specs.Routines.{total};
+
 use crate::sheets::Body;
 
 // How far the reading has come.
-#[derive(Clone, Copy)]
+#[derive(Clone, Copy, PartialEq, Eq, Debug)]
 pub enum Stage {
     // nothing is read
     Start,
@@ -15,11 +19,11 @@ pub enum Stage {
 }
 
 // The list to which an atom line would belong: which names it may use, and how many atoms it has.
-#[derive(Clone, Copy)]
+#[derive(Clone, Copy, PartialEq, Eq, Debug)]
 pub struct Open {
     pub named: u8,
     pub except: u8,
-    pub count: u8,
+    pub count: usize,
 }
 
 // What the lines so far say.
@@ -29,4 +33,6 @@ pub struct Draft {
     pub promised: u8,
     pub atoms: u8,
     pub body: Body,
+    ghost counted: { atoms ≡ total (routine_in body) },
+    ghost few: { promised ≤ 40 },
 }

@@ -1,11 +1,11 @@
 // The kinds of lines, and the table of what each column may hold.
-ghost use Rattle.std.specs.Prelude.{◌≡◌, ℕ, ◌<◌, ◌≤◌, true, if◌then◌else◌, Some, None};
+ghost use Rattle.std.specs.Prelude.{◌≡◌, ◌<◌, ◌≤◌, ◌==◌, true, find, if◌then◌else◌, Some, None};
 ghost use Rattle.sheet.specs.Kinds.{table, entry_for, nameable, allowed, fits, weight_of};
 
 use layout::Six;
 
 // What a line is.
-#[derive(Clone, Copy)]
+#[derive(Clone, Copy, PartialEq, Eq, Debug)]
 pub enum Kind {
     Head,
     Before,
@@ -27,7 +27,7 @@ pub enum Kind {
 }
 
 // The part of a sheet that a line belongs to.
-#[derive(Clone, Copy)]
+#[derive(Clone, Copy, PartialEq, Eq, Debug)]
 pub enum Role {
     Head,
     Before,
@@ -37,7 +37,7 @@ pub enum Role {
 }
 
 // What a column may hold.
-#[derive(Clone, Copy)]
+#[derive(Clone, Copy, PartialEq, Eq, Debug)]
 pub enum Class {
     // nothing: 0
     Unused,
@@ -62,7 +62,7 @@ pub enum Class {
 }
 
 // One row of the table: the number of a kind, the classes of its columns, and what it adds to the weight of a piece.
-#[derive(Clone, Copy)]
+#[derive(Clone, Copy, PartialEq, Eq, Debug)]
 pub struct Entry {
     pub code: u16,
     pub kind: Kind,
@@ -72,7 +72,7 @@ pub struct Entry {
 }
 
 // What the classes depend on.
-#[derive(Clone, Copy)]
+#[derive(Clone, Copy, PartialEq, Eq, Debug, Default)]
 pub struct Scope {
     pub variables: u8,
     pub ghosts: u8,
@@ -278,14 +278,9 @@ pub const TABLE: [Entry; 17] = [
 
 // The first entry that has the number.
 fn found_in(entries: &[Entry], code: u16) -> Option<Entry>
-    ensures { result ≡ entry_for code entries.now }
+    ensures { result ≡ find (λ row. row.code == code) entries.now }
 {
-    for row in entries {
-        if row.code == code {
-            return Some(*row);
-        }
-    }
-    None
+    entries.iter().find(|row| row.code == code).copied()
 }
 
 // The table's entry for a number, if the number is that of a kind.

@@ -1,5 +1,5 @@
 // Making, filling and looking into sheets.
-ghost use Rattle.std.specs.Prelude.{◌≡◌, ◌≤◌, map, length, take, Ok, Err, MatchResult};
+ghost use Rattle.std.specs.Prelude.{◌≡◌, ◌≤◌, map, length, Ok, Err, MatchResult};
 ghost use Rattle.heap.specs.Faults.{report};
 ghost use Rattle.sheet.specs.Routines.{Routine};
 ghost use Rattle.sheet.specs.Written.{text_of};
@@ -9,9 +9,8 @@ ghost use Rattle.sheet.specs.Reading.{reading};
 ghost use Rattle.sheet.specs.Laws.{First};
 ghost use Rattle.sheet.specs.Sheets.{new_routine, head_of, said, answered, filled_by};
 
-use crate::building::EMPTY;
 use crate::reading::read_body;
-use crate::rows::{AtomList, ROWS, Row};
+use crate::rows::{AtomList, Row};
 use crate::sealed::Sheet;
 use crate::sheets::{Body, Head};
 use heap::Fault;
@@ -19,24 +18,12 @@ use heap::Fault;
 fn new_body() -> Body
     ensures { result ≡ laid new_routine }
 {
-    Body {
-        own: 0,
+    let mut body = Body::empty(Head {
         variables: 1,
-        arguments: 0,
-        ghosts: 0,
-        before: EMPTY,
-        after: EMPTY,
-        rows: [Row::Done; ROWS],
-        count: 1,
-    }
-}
-
-// The first rows, so many.
-fn rows_in_use(rows: &[Row], count: u8) -> &[Row]
-    requires { count ≤ length rows.now }
-    ensures { result.now ≡ take count rows.now }
-{
-    &rows[0..count as usize]
+        ..Head::default()
+    });
+    body.rows.push(Row::Done);
+    body
 }
 
 impl Sheet {
@@ -63,12 +50,7 @@ impl Sheet {
     pub fn head(&self) -> Head
         ensures { result ≡ head_of (routine_in self.now.body) }
     {
-        Head {
-            own: self.body.own,
-            variables: self.body.variables,
-            arguments: self.body.arguments,
-            ghosts: self.body.ghosts,
-        }
+        self.body.head
     }
 
     // What holds where the routine begins.
@@ -90,6 +72,6 @@ impl Sheet {
         ensures rows { result.now ≡ map laid_row (routine_in self.now.body).rows }
         ensures few { length result.now ≤ 40 }
     {
-        rows_in_use(&self.body.rows, self.body.count)
+        self.body.rows.as_slice()
     }
 }

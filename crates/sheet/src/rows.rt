@@ -1,4 +1,7 @@
-// Rows and lists of atoms, fixed in size.
+// Rows and lists of atoms, in memory of a fixed size.
+ghost use Rattle.std.specs.Prelude.{◌≡◌};
+
+use arrayvec::ArrayVec;
 use heap::{Atom, Name};
 
 // How many atoms a list holds at most.
@@ -7,15 +10,11 @@ pub const LIST: usize = 8;
 // How many rows a sheet has at most.
 pub const ROWS: usize = 40;
 
-// The atoms of one assertion; behind the last stands `Eq` of nil and nil.
-#[derive(Clone, Copy)]
-pub struct AtomList {
-    pub atoms: [Atom; LIST],
-    pub count: u8,
-}
+// The atoms of one assertion.
+pub type AtomList = ArrayVec<Atom, LIST>;
 
 // What a row does. Rows are numbered from 1.
-#[derive(Clone, Copy)]
+#[derive(Clone, PartialEq, Eq, Debug, Drop)]
 pub enum Row {
     // `into` becomes the value of `from`
     Set {
@@ -65,4 +64,15 @@ pub enum Row {
     },
     // the end; the result is variable 1
     Done,
+}
+
+// The end: what stands in an unused place of a sheet.
+impl Default for Row {
+    ghost use Rattle.sheet.specs.declared.rows.Row.{Row};
+
+    ghost is_default = { λ r. r ≡ Row.Done };
+
+    fn default() -> Row {
+        Row::Done
+    }
 }

@@ -1,7 +1,6 @@
 // The sheet: contents that are well formed, which nothing outside can alter.
-ghost use Rattle.std.specs.Prelude.{◌≡◌};
 ghost use Rattle.sheet.specs.Formed.{WellFormed};
-ghost use Rattle.sheet.specs.Laid.{laid, routine_in};
+ghost use Rattle.sheet.specs.Laid.{routine_in};
 
 use crate::sheets::Body;
 
@@ -10,5 +9,4 @@ use crate::sheets::Body;
 pub struct Sheet {
     pub(crate) body: Body,
     ghost formed: { ∥ WellFormed (routine_in body) ∥₁ },
-    ghost whole: { body ≡ laid (routine_in body) },
 }

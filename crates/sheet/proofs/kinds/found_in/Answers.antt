@@ -1,14 +1,12 @@
-use Rattle.std.proofs.Common.{sym, ◌∙◌, rules}
-use Rattle.sheet.proofs.Tables.{found_here, found_later, found_nowhere}
+-- The chain gives the first entry of the slice that passes the test.
+use Rattle.std.proofs.Common.{◌==◌, ◌∙◌, rules}
+use borrow.Author.Tests.{tests}
+use Rattle.std.proofs.lemmas.Iterator.{YieldsList-from_slice}
+use Rattle.std.proofs.lemmas.Iterator.Search.{find_from_yields_List}
 use Rattle.sheet.proofs.kinds.found_in.Goals as goal
 
-pub loop-row-preserved : goal.loop-row-preserved
-loop-row-preserved c =
-    sym (found_later c.args.code c.args.entries.now c.loop-row.row-index c.loop-row-test.true (search rules)) ∙ c.loop-row.invariant
-
 pub returns : goal.returns
-returns c = sym (found_nowhere c.args.code c.args.entries.now c.loop-row.row-index c.loop-row-test.false) ∙ c.loop-row.invariant
-
-pub returns-then-row-code : goal.returns-then-row-code
-returns-then-row-code c =
-    sym (found_here c.args.code c.args.entries.now c.loop-row.row-index c.loop-row-test.true (search rules)) ∙ c.loop-row.invariant
+returns c =
+    c.copied.ensures
+    ∙ find_from_yields_List (λ row. row.code == c.args.code) _ _ c.find.result c.find.ensures.ran
+    (YieldsList-from_slice c.args.entries.now cc) (λ x b q k. search (rules, tests))

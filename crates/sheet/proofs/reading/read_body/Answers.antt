@@ -1,7 +1,8 @@
 -- Each way out of reading is the definition's.
-use Rattle.std.proofs.Common.{length, Ok, sym, refl, ap, ◌∙◌}
+use Rattle.std.proofs.Common.{Ok, sym, ap, ◌∙◌}
 use Rattle.std.proofs.lemmas.Result.{err_from_is_err_and}
-use Rattle.sheet.proofs.ReadWhole.{refused_lines, refused_line, decided, draft_laid}
+use Rattle.sheet.specs.ModelReading.{progress_in}
+use Rattle.sheet.proofs.ReadWhole.{refused_lines, refused_line, decided}
 use Rattle.sheet.proofs.reading.read_body.Goals as goal
 
 pub returns-in_err-scanned : goal.returns-in_err-scanned
@@ -21,13 +22,10 @@ returns-in_err-finish c =
     let p = err_from_is_err_and c.from_residual-in_err-finish.result c.from_residual-in_err-finish.ensures.1 in
     let ls = c.lines-lines.result.now in
     let h = c.in_ok-scanned.ensures.defined ∙ sym (ap Ok c.lines-lines.ensures) in
-    rw (p.1, p.2) (decided c.args.text.now ls c.in_ok-draft.draft (length ls) h c.in_ok-draft.ensures refl ∙ c.in_err-finish.ensures)
+    rw (p.1, p.2) (decided c.args.text.now ls (progress_in c.in_ok-draft.draft) h c.in_ok-draft.ensures ∙ c.in_err-finish.ensures)
 
 pub returns : goal.returns
 returns c =
     let ls = c.lines-lines.result.now in
     let h = c.in_ok-scanned.ensures.defined ∙ sym (ap Ok c.lines-lines.ensures) in
-    let r = c.in_ok-draft.ensures in (
-      decided c.args.text.now ls c.in_ok-draft.draft (length ls) h r refl ∙ c.in_ok-finish.ensures,
-      draft_laid c.in_ok-draft.draft ls r,
-    )
+    decided c.args.text.now ls (progress_in c.in_ok-draft.draft) h c.in_ok-draft.ensures ∙ c.in_ok-finish.ensures

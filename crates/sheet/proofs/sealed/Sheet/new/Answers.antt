@@ -4,6 +4,4 @@ use Rattle.sheet.proofs.LaidBack.{sealed, new_formed}
 use Rattle.sheet.proofs.sealed.Sheet.new.Goals as goal
 
 pub invariant_of-result : goal.invariant_of-result
-invariant_of-result c =
-    let s = sealed new_routine c.new_body.result new_formed c.new_body.ensures in
-    record { formed = s.0; whole = s.1 }
+invariant_of-result c = record { formed = sealed new_routine c.new_body.result new_formed c.new_body.ensures }

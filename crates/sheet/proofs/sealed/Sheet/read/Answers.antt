@@ -1,9 +1,9 @@
 -- The two ways out of reading.
-use Rattle.std.proofs.Common.{refl, ◌∙◌}
+use Rattle.std.proofs.Common.{sym, refl, ◌∙◌}
 use Rattle.std.proofs.lemmas.Result.{err_from_is_err_and}
 use Rattle.sheet.specs.Laid.{routine_in}
 use Rattle.sheet.proofs.FirstFault.{refusals_first}
-use Rattle.sheet.proofs.LaidBack.{sealed}
+use Rattle.sheet.proofs.LaidBack.{laid_back, sealed}
 use Rattle.sheet.proofs.ReadPromises.{answer_is, filled_is, never_refused, reads_itself}
 use Rattle.sheet.proofs.ReadsText.{reads_text}
 use Rattle.sheet.proofs.sealed.Sheet.read.Goals as goal
@@ -25,9 +25,8 @@ returns-in_err-self c =
 pub invariant_of-self : goal.invariant_of-self
 invariant_of-self c =
     let b = c.in_ok-self.field-0 in
-    let h = c.in_ok-self.ensures in
-    let s = sealed (routine_in b) b (reads_text c.args.text.now (routine_in b) h.0).0 h.1 in
-    record { formed = s.0; whole = s.1 }
+    let R = routine_in b in
+    record { formed = sealed R b (reads_text c.args.text.now R c.in_ok-self.ensures).0 (sym (laid_back b)) }
 
 pub returns : goal.returns
 returns c =
@@ -35,9 +34,9 @@ returns c =
     let h = c.in_ok-self.ensures in
     let t = c.args.text.now in
     record {
-      answer = answer_is t _ h.0;
-      sheet = h.1 ∙ filled_is t c.args.self.now.body _ h.0;
-      reads = h.0;
-      written = reads_text t (routine_in b) h.0;
-      every = λ R w q. (refl, reads_itself t b R h.0 h.1 w q);
+      answer = answer_is t _ h;
+      sheet = sym (laid_back b) ∙ filled_is t c.args.self.now.body _ h;
+      reads = h;
+      written = reads_text t (routine_in b) h;
+      every = λ R w q. (refl, reads_itself t b R h w q);
     }

@@ -1,5 +1,5 @@
 -- Row by row, back to the first.
-use Rattle.std.proofs.Common.{◌≡◌, suc, ◌+◌, ◌-◌, replicate, sym, refl, ◌∙◌, subst, arith, length-set}
+use Rattle.std.proofs.Common.{◌≡◌, suc, ◌+◌, ◌-◌, length, get_or, replicate, sym, refl, ap, ◌∙◌, subst, arith, length-set}
 use Rattle.sheet.specs.Laid.{command_in}
 use Rattle.sheet.specs.Flow.{Most}
 use Rattle.sheet.specs.ModelReading.{rows_in}
@@ -10,16 +10,17 @@ use Rattle.sheet.proofs.sheets.Body.weights.Goals as goal
 
 pub loop-i-init : goal.loop-i-init
 loop-i-init c =
-    let b = c.args.self.now in
-    let n = length-rows b c.requires in
-    (refl, passed_none (replicate 41 0) b.count (rows_in b) (omega arith) (zeros 41))
+    let n = length-rows c.args.self.now in
+    let l = ap (λ xs. length xs) c.as_slice-rows.ensures.value in
+    (refl, passed_none (replicate 41 0) (length c.as_slice-rows.result.now) (rows_in c.args.self.now) (omega arith) (zeros 41))
 
 pub weight_of-requires : goal.weight_of-requires
 weight_of-requires c =
     let b = c.args.self.now in
-    let n = length-rows b c.requires in
+    let n = length-rows b in
+    let l = ap (λ xs. length xs) c.as_slice-rows.ensures.value in
+    let f = c.as_slice-rows.ensures.fits in
     let t = c.loop-i-test.true in
-    let f = c.requires.few in
     let i = c.loop-i.i in
     let e : i ≡ i - 1 + 1 = omega arith in
     passed_small c.loop-i.found (i - 1 + 1) 40 (rows_in b) (omega arith) (subst (λ m. Passed c.loop-i.found m (rows_in b)) e c.loop-i.invariant.1)
@@ -27,16 +28,19 @@ weight_of-requires c =
 pub loop-i-preserved : goal.loop-i-preserved
 loop-i-preserved c =
     let b = c.args.self.now in
-    let n = length-rows b c.requires in
+    let n = length-rows b in
+    let v = c.as_slice-rows.ensures.value in
+    let w = ap (λ xs. length xs) v in
+    let f = c.as_slice-rows.ensures.fits in
     let t = c.loop-i-test.true in
-    let f = c.requires.few in
     let i = c.loop-i.i in
     let k = c.loop-i.auto.i in
     let l = c.loop-i.invariant.0 in
+    let r = c.index-rows-i.result in
     let e : i ≡ i - 1 + 1 = omega arith in (
       length-set c.loop-i.found (i - 1) c.weight_of.result ∙ l,
-      passed_more c.loop-i.found (i - 1) c.weight_of.result (rows_in b) (command_in _) (omega arith) (omega arith)
-          (row_in b (i - 1) c.requires (omega arith)) c.weight_of.ensures
+      passed_more c.loop-i.found (i - 1) c.weight_of.result (rows_in b) (command_in r) (omega arith) (omega arith)
+          (ap command_in (c.index-rows-i.is ∙ ap (λ xs. get_or xs (i - 1) r) v) ∙ row_in b (i - 1) r (omega arith)) c.weight_of.ensures
           (subst (λ m. Passed c.loop-i.found m (rows_in b)) e c.loop-i.invariant.1),
     )
 
