@@ -5,7 +5,7 @@ use heap::Fault;
 use std::process::Abort;
 use store::Store;
 
-// A call of a store.
+// A call of a store. Data and no closures, so that a script is a constant that any make can be run on.
 #[derive(Clone, Copy)]
 enum Call {
     Read(u32),
