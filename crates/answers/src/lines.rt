@@ -1,7 +1,7 @@
 // One line of text, piece by piece.
 ghost use Rattle.std.specs.Prelude.{◌≡◌, ◌+◌, ◌≤◌, [], ◌++◌, length};
 ghost use Rattle.heap.specs.Faults.{report};
-ghost use Rattle.answers.specs.Shown.{shown, answer_line};
+ghost use Rattle.answers.specs.Shown.{answer_line};
 
 use crate::shown::Shown;
 use arrayvec::ArrayVec;
@@ -11,14 +11,14 @@ use layout::column;
 impl Shown {
     // The bytes to be printed.
     pub fn text(&self) -> &[u8]
-        ensures { result.now ≡ shown self.now }
+        ensures { result.now ≡ self.now }
     {
         self.bytes.as_slice()
     }
 
     // A line without a byte.
     pub(crate) fn empty() -> Shown
-        ensures { shown result ≡ [] }
+        ensures { result ≡ [] }
     {
         Shown {
             bytes: ArrayVec::new(),
@@ -27,8 +27,8 @@ impl Shown {
 
     // One piece more, for which there is room.
     pub(crate) fn add(&mut self, part: &[u8])
-        requires { length (shown self.old) + length part.now ≤ 70 }
-        ensures { shown self.new ≡ shown self.old ++ part.now }
+        requires { length self.old + length part.now ≤ 70 }
+        ensures { self.new ≡ self.old ++ part.now }
     {
         let _ = self.bytes.try_extend_from_slice(part);
     }
@@ -36,7 +36,7 @@ impl Shown {
 
 // Two columns: a number and a place.
 pub fn answer(number: u16, place: usize) -> Shown
-    ensures { shown result ≡ answer_line number place }
+    ensures { result ≡ answer_line number place }
 {
     let mut line = Shown::empty();
     line.add(&column(number));
@@ -47,7 +47,7 @@ pub fn answer(number: u16, place: usize) -> Shown
 
 // The line of a refusal: its number and its place.
 pub fn refusal(fault: &Fault) -> Shown
-    ensures { shown result ≡ answer_line (report fault.now).number (report fault.now).place }
+    ensures { result ≡ answer_line (report fault.now).number (report fault.now).place }
 {
     answer(fault.number(), fault.place)
 }

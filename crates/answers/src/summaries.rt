@@ -1,9 +1,7 @@
 // What a sheet holds, in one line.
 ghost use Rattle.std.specs.Prelude.{◌≡◌, ◌+◌, ◌≤◌, ◌++◌, length};
 ghost use Rattle.layout.specs.Columns.{column_of};
-ghost use Rattle.sheet.specs.Contents.{routine_of};
 ghost use Rattle.sheet.specs.Reading.{reading};
-ghost use Rattle.answers.specs.Shown.{shown};
 ghost use Rattle.answers.specs.Summaries.{summary_line, line_for, count_row, count_rows};
 
 use crate::lines::refusal;
@@ -39,8 +37,8 @@ fn atoms_in(rows: &[Row]) -> u16
 impl Shown {
     // A word, and a number in a column behind it.
     fn add_item(&mut self, label: &[u8], n: u16)
-        requires { length (shown self.old) + length label.now + 4 ≤ 70 }
-        ensures { shown self.new ≡ shown self.old ++ (label.now ++ column_of n) }
+        requires { length self.old + length label.now + 4 ≤ 70 }
+        ensures { self.new ≡ self.old ++ (label.now ++ column_of n) }
     {
         self.add(label);
         self.add(&column(n));
@@ -49,7 +47,7 @@ impl Shown {
 
 // The routine's number, its variables, arguments and ghosts, its rows and its atoms.
 pub fn summary(sheet: &Sheet) -> Shown
-    ensures { shown result ≡ summary_line (routine_of sheet.now) }
+    ensures { result ≡ summary_line sheet.now }
 {
     let head = sheet.head();
     let rows = sheet.rows();
@@ -67,7 +65,7 @@ pub fn summary(sheet: &Sheet) -> Shown
 
 // The line for a text: what was read, or the number and place of what is wrong with it.
 pub fn line_for(text: &[u8]) -> Shown
-    ensures { shown result ≡ line_for (reading text.now) }
+    ensures { result ≡ line_for (reading text.now) }
 {
     let mut sheet = Sheet::new();
     match sheet.read(text) {

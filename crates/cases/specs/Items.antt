@@ -1,5 +1,5 @@
 -- Model: what a case in memory says. Assumes nothing.
-use Rattle.std.specs.Prelude.{◌≡◌, ℕ, ◌<◌, ◌≤◌, Bool, true, false, List, ◌++◌, map, length, drop, replicate, slice_index, slice_index_or}
+use Rattle.std.specs.Prelude.{◌≡◌, ℕ, ◌<◌, ◌≤◌, Bool, true, false, List, [], ◌∷◌, ◌++◌, Some, None, Option, map, length, drop, slice_index, slice_index_or}
 use Rattle.heap.specs.declared.atoms.Atom.{Atom}
 use Rattle.pieces.specs.declared.shapes.Edge.TheVariants.{Dead}
 use Rattle.pieces.specs.ModelBounds.{AtomSmall}
@@ -30,10 +30,6 @@ is_running (Adding k) = false
 is_running (Linking i j k) = false
 is_running Running = true
 
--- nil alone
-abbrev pub empty_case : ℕ → Stage → Case
-empty_case r t = record { names = replicate 9 0; edges = replicate 17 Dead; nodes = 1; row = r; stage = t }
-
 -- over the names and the atoms of the opening
 abbrev pub stage_in : List ℕ → List Atom → Stage → model.Stage
 stage_in names atoms (Placing k) = placing (drop k names) atoms
@@ -47,10 +43,14 @@ item_in names atoms k = record { stage = stage_in names atoms k.stage; row = k.r
 abbrev pub items_in : List ℕ → List Atom → List Case → List Item
 items_in names atoms l = map (item_in names atoms) l
 
--- a case whose rows are done, and which has room for a node more
+-- what a case says, if there is one
+abbrev pub items_of : List ℕ → List Atom → Option Case → List Item
+items_of names atoms None = []
+items_of names atoms (Some k) = item_in names atoms k ∷ []
+
+-- a case whose rows are done
 pub record Ready (k : Case) : Type 0 where
   pub sound : SoundShape (shape_of k)
-  pub narrow : k.nodes ≤ 17
   pub low : k.row ≤ 41
   pub stage : k.stage ≡ Running
 
@@ -74,7 +74,6 @@ pub record SmallNames (l : List ℕ) : Type 0 where
 -- a case that can be worked on
 pub record Workable (names : List ℕ) (atoms : List Atom) (k : Case) : Type 0 where
   pub proper : Proper (stage_in names atoms k.stage) (shape_of k)
-  pub narrow : k.nodes ≤ 17
   pub low : k.row ≤ 41
 
 -- it has room for a node more, where its row or the next name wants one

@@ -1,9 +1,10 @@
 -- Model: rows as the search does them. Assumes nothing.
 use Rattle.std.specs.Prelude.{ℕ, suc, ◌<◌, ◌≤◌, Bool, true, false, cond, not, ◌||◌, List, [], ◌++◌, ◌==◌}
+use Rattle.std.specs.List.{flat_map}
 use Rattle.sheet.specs.Routines.{Command, assign, load, store, new, free, jump, branch, cut, call, done}
 use Rattle.pieces.specs.declared.shapes.Edge.TheVariants.{Dead, Cell}
-use Rattle.pieces.specs.ModelChoices.{flat, gather}
-use Rattle.pieces.specs.ModelShapes.{Shape, set_edge, set_name, new_at_lem, new_apart}
+use Rattle.pieces.specs.ModelChoices.{gather}
+use Rattle.pieces.specs.ModelShapes.{Shape, set_edge, set_name, fresh_at, new_apart}
 use Rattle.pieces.specs.ModelCover.{is_dead}
 use Rattle.pieces.specs.ModelCases.{cells, aim}
 use Rattle.pieces.specs.ModelStages.{Item, item, running}
@@ -22,35 +23,34 @@ step_of (cut l) = Close
 step_of (call x q y z s t l) = Close
 step_of done = Close
 
--- what a row that touches makes of a shape with a cell at its node
-abbrev pub act_of : Step → Shape → Shape
-act_of (Set x e) u = u
-act_of (Load x y) u = set_name u x (aim (u.edge (u.name y)))
-act_of (Store x e) u = set_edge u (u.name x) (Cell (u.name e))
-act_of (New x) u = u
-act_of (Free x) u = set_edge u (u.name x) Dead
-act_of (Jump t) u = u
-act_of (Branch e f t) u = u
-act_of Close u = u
+-- what a row that touches makes of a shape with a cell at its node: its link is read, is set, or the cell is freed
+abbrev pub loaded : ℕ → ℕ → Shape → Shape
+loaded x y u = set_name u x (aim (u.edge (u.name y)))
+
+abbrev pub stored : ℕ → ℕ → Shape → Shape
+stored x e u = set_edge u (u.name x) (Cell (u.name e))
+
+abbrev pub freed : ℕ → Shape → Shape
+freed x u = set_edge u (u.name x) Dead
 
 -- an item at a row
 abbrev pub runs_at : ℕ → Shape → List Item
 runs_at r s = item running r s
 
-abbrev pub touching : Step → ℕ → List Shape → List Item
-touching w r us = flat (λ u. runs_at (suc r) (act_of w u)) us
+abbrev pub touching : (Shape → Shape) → ℕ → List Shape → List Item
+touching f r us = flat_map (λ u. runs_at (suc r) (f u)) us
 
 -- a new cell at the node j, if it is dead and not nil
 abbrev pub new_at : ℕ → ℕ → Shape → ℕ → List Item
-new_at x r s j = cond (j == 0 || not (is_dead (s.edge j))) [] (runs_at (suc r) (new_at_lem s x j))
+new_at x r s j = cond (j == 0 || not (is_dead (s.edge j))) [] (runs_at (suc r) (fresh_at s x j))
 
 -- the items behind an item at a row
 abbrev pub nexts_by : Step → ℕ → Shape → List Item
 nexts_by (Set x e) r s = runs_at (suc r) (set_name s x (s.name e))
-nexts_by (Load x y) r s = touching (Load x y) r (cells s (s.name y))
-nexts_by (Store x e) r s = touching (Store x e) r (cells s (s.name x))
+nexts_by (Load x y) r s = touching (loaded x y) r (cells s (s.name y))
+nexts_by (Store x e) r s = touching (stored x e) r (cells s (s.name x))
 nexts_by (New x) r s = runs_at (suc r) (new_apart s x) ++ gather s.size (new_at x r s)
-nexts_by (Free x) r s = touching (Free x) r (cells s (s.name x))
+nexts_by (Free x) r s = touching (freed x) r (cells s (s.name x))
 nexts_by (Jump t) r s = runs_at t s
 nexts_by (Branch e f t) r s = cond (s.name e == s.name f) (runs_at t s) (runs_at (suc r) s)
 nexts_by Close r s = []

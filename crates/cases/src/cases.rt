@@ -1,8 +1,5 @@
 // Cases: the entries of the pile.
-ghost use Rattle.std.specs.Prelude.{◌≡◌, ◌<◌, ◌≤◌};
-ghost use Rattle.pieces.specs.ModelShapes.{set_name, set_edge, add_node, short, long};
-ghost use Rattle.cases.specs.Items.{shape_of, row_of, stage_of, is_running, empty_case};
-ghost use Rattle.pieces.specs.ModelOpening.{bare};
+ghost use Rattle.std.specs.Prelude.{◌≤◌};
 
 use heap::Name;
 use pieces::{Edge, Node};
@@ -13,7 +10,7 @@ pub const NAMES: usize = 9;
 // How many nodes a shape has at most: nil, one for each other name, one for each row of a piece that weighs.
 pub const NODES: usize = 17;
 
-// How far the opening of a piece is done.
+// How far the opening of a piece is done. Indexes into its names and atoms, not slices of them: the lent list of cases outlives each opening.
 #[derive(Clone, Copy)]
 pub enum Stage {
     // the names from this index on are still to be placed
@@ -26,7 +23,9 @@ pub enum Stage {
     Running,
 }
 
-// A shape at a row: the node of each name, the edge of each node.
+// A shape at a row: the node of each name, the edge of each node. Arrays of fixed size, and nodes as indexes: nothing is allocated.
+// That the shape is sound is said where it is needed, and not kept here: names and edges are set one by one, and it does not hold in between. Nor that its row is at most 41: it is the search that knows that no row behind comes up.
+// That a name is below 9 is said at each call too: names are the bytes of heap's atoms and sheet's rows, and a type of its own would be made and undone around each.
 #[derive(Clone, Copy)]
 pub struct Case {
     pub(crate) names: [Node; NAMES],
@@ -34,12 +33,23 @@ pub struct Case {
     pub(crate) nodes: u8,
     pub(crate) row: u8,
     pub(crate) stage: Stage,
+    ghost narrow: { nodes ≤ 17 },
 }
 
 impl Case {
+    ghost use Rattle.std.specs.Prelude.{◌≡◌, ◌<◌, replicate};
+    ghost use Rattle.pieces.specs.declared.shapes.Edge.TheVariants.{Dead};
+    ghost use Rattle.pieces.specs.ModelOpening.{bare};
+    ghost use Rattle.pieces.specs.ModelShapes.{set_name, set_edge, add_node};
+    ghost use Rattle.cases.specs.Items.{shape_of, row_of, stage_of, is_running};
+
     // A case for a list to be lent; what it holds does not matter.
     pub fn blank() -> Case
-        ensures { result ≡ empty_case 1 (Stage.Running) }
+        ensures names { result.names ≡ replicate 9 0 }
+        ensures edges { result.edges ≡ replicate 17 Dead }
+        ensures nodes { result.nodes ≡ 1 }
+        ensures row { result.row ≡ 1 }
+        ensures stage { result.stage ≡ Stage.Running }
     {
         Case {
             names: [0; NAMES],
@@ -77,50 +87,46 @@ impl Case {
     }
 
     // The case with a name at another node.
-    pub(crate) fn with_name(self, x: Name, node: Node) -> Case
+    pub(crate) fn with_name(mut self, x: Name, node: Node) -> Case
         requires { x < 9 }
         ensures shape { shape_of result ≡ set_name (shape_of self) x node }
         ensures row { result.row ≡ self.row }
         ensures stage { result.stage ≡ self.stage }
     {
-        let mut next = self;
-        next.names[x as usize] = node;
-        next
+        self.names[x as usize] = node;
+        self
     }
 
     // The case with another edge at a node.
-    pub(crate) fn with_edge(self, i: Node, edge: Edge) -> Case
+    pub(crate) fn with_edge(mut self, i: Node, edge: Edge) -> Case
         requires { i < 17 }
         ensures shape { shape_of result ≡ set_edge (shape_of self) i edge }
         ensures row { result.row ≡ self.row }
         ensures stage { result.stage ≡ self.stage }
     {
-        let mut next = self;
-        next.edges[i as usize] = edge;
-        next
+        self.edges[i as usize] = edge;
+        self
     }
 
     // The case with one node more.
-    pub(crate) fn with_node(self, edge: Edge) -> Case
+    pub(crate) fn with_node(mut self, edge: Edge) -> Case
         requires { self.nodes < 17 }
         ensures shape { shape_of result ≡ add_node (shape_of self) edge }
         ensures row { result.row ≡ self.row }
         ensures stage { result.stage ≡ self.stage }
     {
-        let mut next = self;
-        next.edges[self.nodes as usize] = edge;
-        next.nodes = self.nodes + 1;
-        next
+        self.edges[self.nodes as usize] = edge;
+        self.nodes += 1;
+        self
     }
 
     // The case at another stage.
-    pub(crate) fn at_stage(self, stage: Stage) -> Case
+    pub(crate) fn at_stage(mut self, stage: Stage) -> Case
         ensures shape { shape_of result ≡ shape_of self }
         ensures row { result.row ≡ self.row }
         ensures stage { result.stage ≡ stage }
     {
-        let mut next = self;
-        next.stage = stage;
-        next
+        self.stage = stage;
+        self
     }
 }

@@ -1,117 +1,111 @@
 // The closing test: whether a list of atoms holds of everything that a case describes.
-ghost use Rattle.std.specs.Prelude.{◌≡◌, ℕ, ◌<◌, ◌≤◌, ◌&&◌, List, ◌∷◌};
-ghost use Rattle.heap.specs.declared.atoms.Atom.{Atom as AtomT};
-ghost use Rattle.pieces.specs.ModelCover.{all_dead, covered, is_dead, walk as walk_over, if_cell};
-ghost use Rattle.pieces.specs.ModelShapes.{SoundShape};
-ghost use Rattle.pieces.specs.Pieces.{put};
-ghost use Rattle.cases.specs.Covers.{edges_of, Inside, Walked};
-ghost use Rattle.cases.specs.Items.{shape_of, SmallAtoms};
-ghost use Rattle.pieces.specs.ModelBounds.{AtomSmall};
+ghost use Rattle.std.specs.Prelude.{◌≡◌, ℕ, ◌<◌, ◌≤◌};
+ghost use Rattle.cases.specs.Covers.{edges_of, Inside};
+ghost use Rattle.cases.specs.Items.{shape_of};
 
 use crate::cases::{Case, NODES};
 use heap::Atom;
 use pieces::{Edge, Node};
 
-// Walks from a node along the edges up to another, and takes each edge on the way: whether it was reached.
-fn walk(edges: &mut [Edge; NODES], nodes: u8, from: Node, to: Node) -> bool
-    requires nodes { nodes ≤ 17 }
-    requires inside { Inside nodes (edges_of edges.old) }
-    requires starts { from < nodes }
-    ensures walked { Walked result (edges_of edges.new) (walk_over nodes (edges_of edges.old) from to) }
-    ensures inside { Inside nodes (edges_of edges.new) }
-{
-    let mut i = from;
-    for _step in 0..nodes {
-        if i == to {
-            return true;
-        }
-        let edge = edges[i as usize];
-        match edge {
-            Edge::Dead => return false,
-            Edge::Cell(next) | Edge::Segment(next) => {
-                edges[i as usize] = Edge::Dead;
-                i = next;
+// A case, and its edges that are left while the atoms of a list take theirs.
+#[derive(Drop)]
+struct Covering<'a> {
+    case: &'a Case,
+    edges: [Edge; NODES],
+    ghost named: { (n : ℕ) → (shape_of case.now).name n < case.now.nodes },
+    ghost inside: { Inside case.now.nodes (edges_of edges) },
+}
+
+impl Covering<'_> {
+    ghost use Rattle.std.specs.Prelude.{◌≡◌, ℕ, ◌<◌, ◌&&◌, List, ◌∷◌};
+    ghost use Rattle.heap.specs.declared.atoms.Atom.{Atom as AtomT};
+    ghost use Rattle.pieces.specs.declared.shapes.Edge.TheVariants.{Dead};
+    ghost use Rattle.pieces.specs.ModelBounds.{AtomSmall};
+    ghost use Rattle.pieces.specs.ModelCover.{all_dead, covered, walk as walk_over, if_cell};
+    ghost use Rattle.pieces.specs.Pieces.{put};
+    ghost use Rattle.cases.specs.Covers.{Walked};
+
+    // Walks from a node along the edges up to another, and takes each edge on the way: whether it was reached.
+    fn walk(&mut self, from: Node, to: Node) -> bool
+        requires { from < self.old.case.now.nodes }
+        ensures walked { Walked result (edges_of self.new.edges) (walk_over self.old.case.now.nodes (edges_of self.old.edges) from to) }
+        ensures case { self.new.case ≡ self.old.case }
+    {
+        let mut i = from;
+        for _step in 0..self.case.nodes {
+            if i == to {
+                return true;
+            }
+            let edge = self.edges[i as usize];
+            match edge {
+                Edge::Dead => return false,
+                Edge::Cell(next) | Edge::Segment(next) => {
+                    self.edges[i as usize] = Edge::Dead;
+                    i = next;
+                }
             }
         }
+        i == to
     }
-    i == to
-}
 
-// Whether no edge is left.
-fn none_left(edges: &[Edge; NODES], nodes: u8) -> bool
-    requires { nodes ≤ 17 }
-    ensures { result ≡ all_dead nodes (edges_of edges.now) }
-{
-    for k in 0..nodes {
-        if !is_dead(edges[k as usize]) {
-            return false;
+    // Takes the edge of a node: whether it is one cell that is linked to the other.
+    fn take_cell(&mut self, i: Node, to: Node) -> bool
+        requires { i < 17 }
+        ensures cell { result ≡ if_cell (edges_of self.old.edges i) to }
+        ensures taken { edges_of self.new.edges ≡ put (edges_of self.old.edges) i Dead }
+        ensures case { self.new.case ≡ self.old.case }
+    {
+        let edge = self.edges[i as usize];
+        self.edges[i as usize] = Edge::Dead;
+        edge == Edge::Cell(to)
+    }
+
+    // Whether an atom holds of some of the edges that are left, which are then taken.
+    fn takes(&mut self, atom: &Atom) -> bool
+        requires { AtomSmall atom.now }
+        ensures taken { (l : List AtomT) → covered self.old.case.now.nodes (shape_of self.old.case.now).name (atom.now ∷ l) (edges_of self.old.edges) ≡ (result && covered self.old.case.now.nodes (shape_of self.old.case.now).name l (edges_of self.new.edges)) }
+        ensures case { self.new.case ≡ self.old.case }
+    {
+        let case = self.case;
+        match atom {
+            Atom::Eq { left, right } => case.are_equal(*left, *right),
+            Atom::Neq { left, right } => !case.are_equal(*left, *right),
+            Atom::Next { cell, link } => self.take_cell(case.node(*cell), case.node(*link)),
+            Atom::Lseg { from, to } => self.walk(case.node(*from), case.node(*to)),
         }
     }
-    true
-}
 
-fn is_dead(edge: Edge) -> bool
-    ensures { result ≡ is_dead edge }
-{
-    matches!(edge, Edge::Dead)
-}
-
-// Whether an edge is one cell that is linked to the node; a segment is not, since it may be longer.
-fn is_cell_to(edge: Edge, to: Node) -> bool
-    ensures { result ≡ if_cell edge to }
-{
-    match edge {
-        Edge::Cell(next) => next == to,
-        _ => false,
+    // Whether no edge is left.
+    fn is_done(&self) -> bool
+        ensures { result ≡ all_dead self.now.case.now.nodes (edges_of self.now.edges) }
+    {
+        self.edges[..self.case.nodes as usize]
+            .iter()
+            .all(|edge| *edge == Edge::Dead)
     }
-}
-
-// Takes the edge of a node: whether it is one cell that is linked to the other.
-fn take_cell(edges: &mut [Edge; NODES], i: Node, to: Node) -> bool
-    requires { i < 17 }
-    ensures cell { result ≡ if_cell (edges_of edges.old i) to }
-    ensures taken { edges_of edges.new ≡ put (edges_of edges.old) i (Edge.Dead) }
-    ensures inside { (m : ℕ) → Inside m (edges_of edges.old) → Inside m (edges_of edges.new) }
-{
-    let holds = is_cell_to(edges[i as usize], to);
-    edges[i as usize] = Edge::Dead;
-    holds
 }
 
 impl Case {
-    // Whether an atom holds of some of the edges that are left, which are then taken.
-    fn takes(&self, atom: &Atom, edges: &mut [Edge; NODES]) -> bool
-        requires sound { SoundShape (shape_of self.now) }
-        requires nodes { self.now.nodes ≤ 17 }
-        requires small { AtomSmall atom.now }
-        requires inside { Inside self.now.nodes (edges_of edges.old) }
-        ensures taken { (l : List AtomT) → covered self.now.nodes (shape_of self.now).name (atom.now ∷ l) (edges_of edges.old) ≡ (result && covered self.now.nodes (shape_of self.now).name l (edges_of edges.new)) }
-        ensures inside { Inside self.now.nodes (edges_of edges.new) }
-    {
-        match atom {
-            Atom::Eq { left, right } => self.are_equal(*left, *right),
-            Atom::Neq { left, right } => !self.are_equal(*left, *right),
-            Atom::Next { cell, link } => {
-                let to = self.node(*link);
-                take_cell(edges, self.node(*cell), to)
-            }
-            Atom::Lseg { from, to } => walk(edges, self.nodes, self.node(*from), self.node(*to)),
-        }
-    }
+    ghost use Rattle.std.specs.Prelude.{◌≡◌};
+    ghost use Rattle.pieces.specs.ModelCover.{covered};
+    ghost use Rattle.pieces.specs.ModelShapes.{SoundShape};
+    ghost use Rattle.cases.specs.Items.{SmallAtoms};
 
     // Whether the list holds of every state that the case describes: each atom in turn takes its edges, and none is left over.
     pub fn covers(&self, atoms: &[Atom]) -> bool
         requires sound { SoundShape (shape_of self.now) }
-        requires nodes { self.now.nodes ≤ 17 }
         requires small { SmallAtoms atoms.now }
         ensures { result ≡ covered self.now.nodes (shape_of self.now).name atoms.now (shape_of self.now).edge }
     {
-        let mut edges = self.edges;
+        let mut covering = Covering {
+            case: self,
+            edges: self.edges,
+        };
         for atom in atoms {
-            if !self.takes(atom, &mut edges) {
+            if !covering.takes(atom) {
                 return false;
             }
         }
-        none_left(&edges, self.nodes)
+        covering.is_done()
     }
 }

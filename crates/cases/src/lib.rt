@@ -3,13 +3,12 @@
 
 mod cases;
 mod covering;
-mod expanding;
-mod opening;
+mod openings;
 mod piling;
 mod stepping;
 mod steps;
 
 pub use cases::{Case, Stage};
-pub use expanding::expand;
+pub use openings::Opening;
 pub use piling::put;
 pub use steps::Step;

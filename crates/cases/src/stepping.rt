@@ -1,15 +1,17 @@
 // Rows done in a case.
-ghost use Rattle.std.specs.Prelude.{◌≡◌, ℕ, suc, ◌+◌, ◌<◌, ◌≤◌, true, not, ◌||◌, ◌++◌, length, ◌==◌};
+ghost use Rattle.std.specs.Prelude.{◌≡◌, ℕ, suc, ◌+◌, ◌<◌, ◌≤◌, true, not, ◌||◌, List, ◌++◌, ◌==◌};
+ghost use Rattle.heap.specs.declared.atoms.Atom.{Atom};
 ghost use Rattle.heap.specs.Piles.{capacity, entries};
 ghost use Rattle.pieces.specs.ModelCases.{aim as aim_of, cells};
 ghost use Rattle.pieces.specs.ModelCover.{is_dead};
-ghost use Rattle.pieces.specs.ModelShapes.{short, long, new_at_lem as new_cell_at, new_apart, SoundShape};
-ghost use Rattle.cases.specs.Items.{shape_of, Ready, LaidOn};
-ghost use Rattle.cases.specs.Steps.{act_of, misses_by, SmallStep, touching, new_at, nexts_by, weighs};
-ghost use Rattle.pieces.specs.ModelChoices.{gather};
+ghost use Rattle.pieces.specs.ModelShapes.{Shape, short, long, new_apart, SoundShape};
+ghost use Rattle.cases.specs.declared.cases.Case.{Case};
+ghost use Rattle.cases.specs.Items.{shape_of, items_of, Ready, LaidOn};
+ghost use Rattle.cases.specs.Rooms.{HasRoom, Acts};
+ghost use Rattle.cases.specs.Steps.{loaded, stored, freed, misses_by, SmallStep, touching, new_at, nexts_by, weighs};
 
 use crate::cases::{Case, Stage};
-use crate::piling::put;
+use crate::piling::{put, put_each};
 use crate::steps::Step;
 use heap::{Name, Pile};
 use pieces::{Edge, Node};
@@ -29,14 +31,12 @@ impl Case {
         requires node { (shape_of self.now).name x < 17 }
         ensures { result ≡ is_dead ((shape_of self.now).edge ((shape_of self.now).name x)) }
     {
-        let edge = self.edges[self.names[x as usize] as usize];
-        matches!(edge, Edge::Dead)
+        self.edges[self.node(x) as usize] == Edge::Dead
     }
 
     // Whether the step touches a cell that is not live.
     pub fn misses(&self, step: Step) -> bool
         requires sound { SoundShape (shape_of self.now) }
-        requires narrow { (shape_of self.now).size ≤ 17 }
         requires small { SmallStep step }
         ensures { result ≡ misses_by step (shape_of self.now) }
     {
@@ -48,32 +48,7 @@ impl Case {
     }
 }
 
-// What a step that touches makes of a case with a cell at its node; the row is then the next.
-fn act(case: Case, step: Step) -> Case
-    requires sound { SoundShape (shape_of case) }
-    requires narrow { (shape_of case).size ≤ 17 }
-    requires small { SmallStep step }
-    requires low { case.row ≤ 41 }
-    ensures shape { shape_of result ≡ act_of step (shape_of case) }
-    ensures row { result.row ≡ suc case.row }
-    ensures stage { result.stage ≡ case.stage }
-{
-    match step {
-        Step::Load { into, cell } => {
-            let edge = case.edges[case.names[cell as usize] as usize];
-            case.with_name(into, aim(edge)).next_row()
-        }
-        Step::Store { cell, link } => {
-            let target = case.node(link);
-            case.with_edge(case.node(cell), Edge::Cell(target))
-                .next_row()
-        }
-        Step::Free { cell } => case.with_edge(case.node(cell), Edge::Dead).next_row(),
-        _ => case.next_row(),
-    }
-}
-
-// Where an edge leads; nil where it is dead.
+// Where an edge leads; nil, a node like any other, where it is dead, as for no row that loads.
 fn aim(edge: Edge) -> Node
     ensures { result ≡ aim_of edge }
 {
@@ -85,14 +60,13 @@ fn aim(edge: Edge) -> Node
 
 impl Case {
     // The case at another row.
-    fn at_row(self, row: u8) -> Case
+    fn at_row(mut self, row: u8) -> Case
         ensures shape { shape_of result ≡ shape_of self }
         ensures row { result.row ≡ row }
         ensures stage { result.stage ≡ self.stage }
     {
-        let mut next = self;
-        next.row = row;
-        next
+        self.row = row;
+        self
     }
 
     fn next_row(self) -> Case
@@ -102,6 +76,47 @@ impl Case {
         ensures stage { result.stage ≡ self.stage }
     {
         self.at_row(self.row + 1)
+    }
+
+    // The name at the link of the cell of another; the row is then the next.
+    fn loaded(self, into: Name, cell: Name) -> Case
+        requires sound { SoundShape (shape_of self) }
+        requires into { into < 9 }
+        requires cell { cell < 9 }
+        requires low { self.row ≤ 41 }
+        ensures shape { shape_of result ≡ loaded into cell (shape_of self) }
+        ensures row { result.row ≡ suc self.row }
+        ensures stage { result.stage ≡ self.stage }
+    {
+        let edge = self.edges[self.node(cell) as usize];
+        self.with_name(into, aim(edge)).next_row()
+    }
+
+    // The cell of a name linked to the node of another; the row is then the next.
+    fn stored(self, cell: Name, link: Name) -> Case
+        requires sound { SoundShape (shape_of self) }
+        requires cell { cell < 9 }
+        requires link { link < 9 }
+        requires low { self.row ≤ 41 }
+        ensures shape { shape_of result ≡ stored cell link (shape_of self) }
+        ensures row { result.row ≡ suc self.row }
+        ensures stage { result.stage ≡ self.stage }
+    {
+        let target = self.node(link);
+        self.with_edge(self.node(cell), Edge::Cell(target))
+            .next_row()
+    }
+
+    // The cell of a name no longer live; the row is then the next.
+    fn freed(self, cell: Name) -> Case
+        requires sound { SoundShape (shape_of self) }
+        requires cell { cell < 9 }
+        requires low { self.row ≤ 41 }
+        ensures shape { shape_of result ≡ freed cell (shape_of self) }
+        ensures row { result.row ≡ suc self.row }
+        ensures stage { result.stage ≡ self.stage }
+    {
+        self.with_edge(self.node(cell), Edge::Dead).next_row()
     }
 
     // A segment from node i to node t as one cell.
@@ -127,24 +142,24 @@ impl Case {
     }
 }
 
-// A step that touches the cell of name x: nothing behind a dead node; a segment there is first split.
-fn touch(pile: &mut Pile<Case>, case: Case, step: Step, x: Name)
+// What `act` makes of a case with a cell at the node of name x: nothing where that is dead; a segment there is first split.
+fn touch<F: Fn(Case) -> Case>(pile: &mut Pile<Case>, case: Case, x: Name, act: F)
+    requires callable { (k : Case) → SoundShape (shape_of k) → k.row ≤ 41 → F.pre act k }
     requires ready { Ready case }
     requires grows { case.nodes < 17 }
-    requires small { SmallStep step }
     requires name { x < 9 }
-    requires room { length (touching step case.row (cells (shape_of case) ((shape_of case).name x))) + length (entries pile.old) ≤ capacity pile.old }
-    ensures piled { LaidOn (touching step case.row (cells (shape_of case) ((shape_of case).name x))) (entries pile.old) (entries pile.new) }
+    requires room { (f : Shape → Shape) × HasRoom (touching f case.row (cells (shape_of case) ((shape_of case).name x))) pile.old }
+    ensures piled { (f : Shape → Shape) → Acts (F.post act) f → LaidOn (touching f case.row (cells (shape_of case) ((shape_of case).name x))) (entries pile.old) (entries pile.new) }
     ensures room { capacity pile.new ≡ capacity pile.old }
 {
     let i = case.node(x);
     let edge = case.edges[i as usize];
     match edge {
         Edge::Dead => {}
-        Edge::Cell(_) => put(pile, act(case, step)),
+        Edge::Cell(_) => put(pile, act(case)),
         Edge::Segment(t) => {
-            put(pile, act(case.longer(i, t), step));
-            put(pile, act(case.shorter(i, t), step));
+            put(pile, act(case.longer(i, t)));
+            put(pile, act(case.shorter(i, t)));
         }
     }
 }
@@ -155,20 +170,17 @@ impl Case {
         requires { j < 17 }
         ensures { result ≡ not (j == 0 || not (is_dead ((shape_of self.now).edge j))) }
     {
-        let edge = self.edges[j as usize];
-        j != 0 && matches!(edge, Edge::Dead)
+        j != 0 && self.edges[j as usize] == Edge::Dead
     }
 
-    // The name at a new cell at the node, its link nil; the row is then the next.
-    fn new_at(self, x: Name, j: Node) -> Case
+    // The name at a new cell at the node, if one may be there, its link nil; the row is then the next.
+    fn new_at(self, x: Name, j: Node) -> Option<Case>
+        requires ready { Ready self }
         requires name { x < 9 }
         requires node { j < 17 }
-        requires low { self.row ≤ 41 }
-        ensures shape { shape_of result ≡ new_cell_at (shape_of self) x j }
-        ensures row { result.row ≡ suc self.row }
-        ensures stage { result.stage ≡ self.stage }
+        ensures { (names : List ℕ) (atoms : List Atom) → items_of names atoms result ≡ new_at x self.row (shape_of self) j }
     {
-        self.with_edge(j, Edge::Cell(0)).with_name(x, j).next_row()
+        self.is_spare(j).then_some(self.with_edge(j, Edge::Cell(0)).with_name(x, j).next_row())
     }
 
     // The name at a new cell at a node of its own, its link nil; the row is then the next.
@@ -186,31 +198,16 @@ impl Case {
     }
 }
 
-// A new cell at each node where it may be.
-fn new_at_nodes(pile: &mut Pile<Case>, case: Case, x: Name)
-    requires ready { Ready case }
-    requires name { x < 9 }
-    requires room { length (gather case.nodes (new_at x case.row (shape_of case))) + length (entries pile.old) ≤ capacity pile.old }
-    ensures piled { LaidOn (gather case.nodes (new_at x case.row (shape_of case))) (entries pile.old) (entries pile.new) }
-    ensures room { capacity pile.new ≡ capacity pile.old }
-{
-    for j in 0..case.nodes {
-        if case.is_spare(j) {
-            put(pile, case.new_at(x, j));
-        }
-    }
-}
-
 // A new cell: at a node of its own, or at each dead one but nil.
 fn allocate(pile: &mut Pile<Case>, case: Case, x: Name)
     requires ready { Ready case }
     requires grows { case.nodes < 17 }
     requires name { x < 9 }
-    requires room { length (nexts_by (Step.New x) case.row (shape_of case)) + length (entries pile.old) ≤ capacity pile.old }
+    requires room { HasRoom (nexts_by (Step.New x) case.row (shape_of case)) pile.old }
     ensures piled { LaidOn (nexts_by (Step.New x) case.row (shape_of case)) (entries pile.old) (entries pile.new) }
     ensures room { capacity pile.new ≡ capacity pile.old }
 {
-    new_at_nodes(pile, case, x);
+    put_each(pile, case.nodes, |j| case.new_at(x, j));
     put(pile, case.new_apart(x));
 }
 
@@ -219,15 +216,15 @@ pub(crate) fn advance(pile: &mut Pile<Case>, case: Case, step: Step)
     requires ready { Ready case }
     requires grows { weighs step ≡ true → case.nodes < 17 }
     requires small { SmallStep step }
-    requires room { length (nexts_by step case.row (shape_of case)) + length (entries pile.old) ≤ capacity pile.old }
+    requires room { HasRoom (nexts_by step case.row (shape_of case)) pile.old }
     ensures piled { LaidOn (nexts_by step case.row (shape_of case)) (entries pile.old) (entries pile.new) }
     ensures room { capacity pile.new ≡ capacity pile.old }
 {
     match step {
         Step::Set { into, from } => put(pile, case.with_name(into, case.node(from)).next_row()),
-        Step::Load { cell, .. } | Step::Store { cell, .. } | Step::Free { cell } => touch(
-            pile, case, step, cell,
-        ),
+        Step::Load { into, cell } => touch(pile, case, cell, |k| k.loaded(into, cell)),
+        Step::Store { cell, link } => touch(pile, case, cell, |k| k.stored(cell, link)),
+        Step::Free { cell } => touch(pile, case, cell, |k| k.freed(cell)),
         Step::New { into } => allocate(pile, case, into),
         Step::Jump { to } => put(pile, case.at_row(to)),
         Step::Branch { left, right, to } => {

@@ -6,7 +6,8 @@ ghost use Rattle.cases.specs.Steps.{step_of};
 use heap::Name;
 use sheet::Row;
 
-// What a row does to a case; all rows that close a piece are one.
+// What a row does to a case; all rows that close a piece are one. Not the row itself: that carries a list of eight atoms, and a step is copied at each turn.
+// `SmallStep` stands in the contracts: an enum has no ghost fields, and a struct around it would be opened at each match.
 #[derive(Clone, Copy)]
 pub enum Step {
     Set { into: Name, from: Name },
@@ -19,11 +20,11 @@ pub enum Step {
     Close,
 }
 
-impl Step {
+impl From<&Row> for Step {
+    ghost from_gives = { λ row step. step ≡ step_of (command_in row.now) };
+
     // The step of a row.
-    pub fn of(row: &Row) -> Step
-        ensures { result ≡ step_of (command_in row.now) }
-    {
+    fn from(row: &Row) -> Step {
         match row {
             Row::Set { into, from } => Step::Set {
                 into: *into,

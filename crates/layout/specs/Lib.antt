@@ -2,4 +2,3 @@ pub mod Columns
 pub mod Laws
 pub mod Lines
 pub mod Texts
-pub mod Scans

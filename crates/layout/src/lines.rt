@@ -8,7 +8,7 @@ use crate::columns::number;
 // How many bytes a line has.
 pub const LINE: usize = 29;
 
-// The six columns behind a line's kind.
+// The six columns behind a line's kind. No `[T; 6]`: in the definitions an array is a list of any length, and each would have to say what a shorter one means.
 #[derive(Clone, Copy, PartialEq, Eq, Debug, Default)]
 pub struct Six<T> {
     pub first: T,

@@ -2,7 +2,6 @@
 ghost use Rattle.std.specs.Prelude.{◌≡◌, Ok, Err, MatchResult};
 ghost use Rattle.heap.specs.Faults.{report};
 ghost use Rattle.layout.specs.Laws.{TextOf, Refused};
-ghost use Rattle.layout.specs.Scans.{lines_in};
 ghost use Rattle.layout.specs.Texts.{lines_of};
 
 use crate::lines::{LINE, Numbers, parse};
@@ -13,7 +12,7 @@ use heap::{Fault, Problem};
 impl Scanned {
     // The numbers of each line, in their order.
     pub fn lines(&self) -> &[Numbers]
-        ensures { result.now ≡ lines_in self.now }
+        ensures { result.now ≡ self.now }
     {
         self.lines.as_slice()
     }
@@ -21,8 +20,8 @@ impl Scanned {
 
 // Reads every line of a text: 101 for its length, else 102 at the first line whose layout is broken.
 pub fn scan(text: &[u8]) -> Result<Scanned, Fault>
-    ensures defined { MatchResult result (λ s. lines_of text.now ≡ Ok (lines_in s)) (λ f. lines_of text.now ≡ Err (report f)) }
-    ensures written { MatchResult result (λ s. TextOf text.now (lines_in s)) (λ f. Refused text.now (report f)) }
+    ensures defined { MatchResult result (λ s. lines_of text.now ≡ Ok s) (λ f. lines_of text.now ≡ Err (report f)) }
+    ensures written { MatchResult result (λ s. TextOf text.now s) (λ f. Refused text.now (report f)) }
 {
     if text.is_empty() || text.len() % LINE != 0 || text.len() > LINES * LINE {
         return Err(Fault::at(Problem::TextLength, 0));

@@ -289,4 +289,4 @@ module _ (m : ℕ) (name : ℕ → ℕ) (val : ℕ → ℕ) where
   covered-complete (Lseg x y ∷ r) edge env h w M T v (xs, t, H) =
       let k = walk_complete m edge h (name x) (name y) xs w M T (w.names_in x) (w.names_in y) (count_le m edge) (rw (v x, v y) at t) in
       let ih = covered-complete r k.left env (minus h xs) k.sound k.model k.two v H in
-      ap (λ o. elim o [ None ↦ false | Some left ↦ covered m name r left ]) k.finds ∙ ih
+      rw (k.finds, covered) ih

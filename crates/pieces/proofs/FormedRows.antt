@@ -85,9 +85,6 @@ module _ (R : Routine) (F : WellFormed R) where
   abbrev rows : List Command
   rows = R.rows
 
-  done_small : (n : ℕ) → Small n done
-  done_small n = tt
-
   row_formed : (i : ℕ) → i < length rows → RowFormed R (get_or rows i done)
   row_formed i q = all_at (RowFormed R) rows done i F.row_columns q
 
@@ -157,12 +154,6 @@ module _ (R : Routine) (F : WellFormed R) where
   -- weights
   WIn : (r : ℕ) → 1 ≤ r → weight_from rows r ≡ most rows r
   WIn r q = let e : eqb r 0 ≡ false = grind (arith, nat_tests) in rw e
-
-  WLow : (r : ℕ) → weight_from rows r ≤ 41
-  WLow r = elim (cases_eq r 0) [
-    | inl z ↦ let e : eqb r 0 ≡ true = grind (arith, nat_tests) in rw e (omega arith)
-    | inr n ↦ let e = WIn r (omega arith) in let b = weights_bounded 1 rows (r - 1) in let f = F.few_rows in omega arith
-  ]
 
   WNext : (r : ℕ) → 1 ≤ r → weight_from rows r ≤ 40
   WNext r q = let e = WIn r q in let b = weights_bounded 1 rows (r - 1) in let f = F.few_rows in omega arith

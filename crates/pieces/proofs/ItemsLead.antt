@@ -1,5 +1,6 @@
 -- Proofs: the items on the pile stay proper, and an item reaches what the items behind it reach.
 use Rattle.std.proofs.Common.{◌≡◌, ℕ, Bool, true, false, not, ◌||◌, eqb, ◌≢◌, ◌⊎◌, List, [], ◌∷◌, sym, refl, ap, ◌∙◌, subst, inl, inr, arith}
+use Rattle.std.specs.List.{AllByRecursion, flat_map}
 use Rattle.std.proofs.lemmas.Bool.Decides.{nat_tests}
 use Rattle.std.proofs.lemmas.Bool.{cases_eq, cases_Bool}
 use Rattle.heap.specs.declared.atoms.Atom.{Atom}
@@ -8,7 +9,7 @@ use Rattle.sheet.specs.Routines.{Command}
 use Rattle.sheet.specs.Flow.{row_at}
 use Rattle.pieces.specs.declared.shapes.Edge.TheVariants.{Dead}
 use Rattle.pieces.specs.Pieces.{mem, State, Runs, here, Opening, Allowed}
-use Rattle.pieces.specs.ModelChoices.{SomeOf, All_of, Has, flat}
+use Rattle.pieces.specs.ModelChoices.{SomeOf, Has}
 use Rattle.pieces.specs.ModelShapes.{Shape, Fits, SoundShape, set_name, add_node}
 use Rattle.pieces.specs.ModelCover.{is_dead}
 use Rattle.pieces.specs.ModelOpening.{place, add, bare, clash}
@@ -28,7 +29,7 @@ Three (Neq x y) = Unit {0}
 Three (Next x y) = Unit {0}
 Three (Lseg x y) = ⊥
 
-add_sound : (a : Atom) (s : Shape) → Three a → SoundShape s → All_of (λ u. SoundShape u) (add a s)
+add_sound : (a : Atom) (s : Shape) → Three a → SoundShape s → AllByRecursion (λ u. SoundShape u) (add a s)
 add_sound (Eq x y) s t w = elim (cases_Bool (eqb (s.name x) (s.name y))) [ inl t ↦ rw t (w, tt) | inr t ↦ rw t tt ]
 add_sound (Neq x y) s t w = elim (cases_Bool (eqb (s.name x) (s.name y))) [ inl t ↦ rw t tt | inr t ↦ rw t (w, tt) ]
 add_sound (Next x y) s t w = elim (cases_Bool (eqb (s.name x) 0)) [
@@ -44,13 +45,13 @@ add_sound (Lseg x y) s t w = elim t [ ]
 abbrev Like : ℕ → Item → Type 0
 Like r it = Kept it × (it.row ≡ r)
 
-adds_kept : (l : List Atom) (r : ℕ) (a : Atom) (s : Shape) → Three a → SoundShape s → All_of (Like r) (flat (λ u. item (adding l) r u) (add a s))
+adds_kept : (l : List Atom) (r : ℕ) (a : Atom) (s : Shape) → Three a → SoundShape s → AllByRecursion (Like r) (flat_map (λ u. item (adding l) r u) (add a s))
 adds_kept l r a s t w = all_flat (Like r) (λ u. SoundShape u) (λ u. item (adding l) r u) (λ u x. ((x, refl), tt)) (add a s) (add_sound a s t w)
 
-placed_kept : (cs : List ℕ) (l : List Atom) (r : ℕ) (u : Shape) → Proper (placing cs l) u → All_of (Like r) (placed cs l r u)
+placed_kept : (cs : List ℕ) (l : List Atom) (r : ℕ) (u : Shape) → Proper (placing cs l) u → AllByRecursion (Like r) (placed cs l r u)
 placed_kept cs l r u x = elim (cases_Bool (clash cs u l)) [ inl t ↦ rw t tt | inr t ↦ rw t ((x, refl), tt) ]
 
-place_kept : (c : ℕ) (cs : List ℕ) (l : List Atom) (r : ℕ) (s : Shape) → Proper (placing (c ∷ cs) l) s → All_of (Like r) (flat (placed cs l r) (place c s))
+place_kept : (c : ℕ) (cs : List ℕ) (l : List Atom) (r : ℕ) (s : Shape) → Proper (placing (c ∷ cs) l) s → AllByRecursion (Like r) (flat_map (placed cs l r) (place c s))
 place_kept c cs l r s (w, dead, unplaced, ap) = all_flat (Like r) (Proper (placing cs l)) (placed cs l r) (placed_kept cs l r) (place c s) (
   (
     sound_name (add_node s Dead) c s.size (sound_apart s Dead w (λ t e. absurd (grind (arith, nat_tests))) (λ t e. absurd (grind (arith, nat_tests)))) (omega arith),
@@ -69,7 +70,7 @@ place_kept c cs l r s (w, dead, unplaced, ap) = all_flat (Like r) (Proper (placi
   )),
 )
 
-links_kept : (i j : ℕ) (l : List Atom) (rows : List Command) (r : ℕ) (s : Shape) → Proper (linking i j l) s → All_of (Like r) (afters rows (linking i j l) r s)
+links_kept : (i j : ℕ) (l : List Atom) (rows : List Command) (r : ℕ) (s : Shape) → Proper (linking i j l) s → AllByRecursion (Like r) (afters rows (linking i j l) r s)
 links_kept i j l rows r s (w, p, q, n) = elim (cases_Bool (eqb i 0 || not (is_dead (s.edge i)))) [
   | inl t ↦ rw t tt
   | inr t ↦
@@ -83,7 +84,7 @@ links_kept i j l rows r s (w, p, q, n) = elim (cases_Bool (eqb i 0 || not (is_de
       )
 ]
 
-kept : (rows : List Command) (t : Stage) (r : ℕ) (s : Shape) → t ≢ running → Proper t s → All_of (Like r) (afters rows t r s)
+kept : (rows : List Command) (t : Stage) (r : ℕ) (s : Shape) → t ≢ running → Proper t s → AllByRecursion (Like r) (afters rows t r s)
 kept rows (placing [] l) r s n g = ((g.0, refl), tt)
 kept rows (placing (c ∷ cs) l) r s n g = place_kept c cs l r s g
 kept rows (adding []) r s n w = ((w, refl), tt)
@@ -97,10 +98,10 @@ kept rows (adding (Lseg x y ∷ l)) r s n w = elim (cases_eq (s.name x) (s.name 
 kept rows (linking i j l) r s n g = links_kept i j l rows r s g
 kept rows running r s n g = absurd (n refl)
 
-runs_kept : (rows : List Command) (r : ℕ) (s : Shape) → SoundShape s → All_of Kept (afters rows running r s)
+runs_kept : (rows : List Command) (r : ℕ) (s : Shape) → SoundShape s → AllByRecursion Kept (afters rows running r s)
 runs_kept rows r s w = all_flat Kept (λ c. SoundShape c.shape) (λ c. item running c.row c.shape) (λ c x. (x, tt)) (onward rows (record { row = r; shape = s })) (step_sound (row_at rows r) s r w)
 
-pub keeps_items : (rows : List Command) (t : Stage) (n : ℕ) (s : Shape) → Proper t s → All_of Kept (afters rows t n s)
+pub keeps_items : (rows : List Command) (t : Stage) (n : ℕ) (s : Shape) → Proper t s → AllByRecursion Kept (afters rows t n s)
 keeps_items rows (placing cs l) n s g = all_fst Kept (λ it. it.row ≡ n) (afters rows (placing cs l) n s) (kept rows (placing cs l) n s (λ e. grind (arith, nat_tests)) g)
 keeps_items rows (adding l) n s g = all_fst Kept (λ it. it.row ≡ n) (afters rows (adding l) n s) (kept rows (adding l) n s (λ e. grind (arith, nat_tests)) g)
 keeps_items rows (linking i j l) n s g = all_fst Kept (λ it. it.row ≡ n) (afters rows (linking i j l) n s) (kept rows (linking i j l) n s (λ e. grind (arith, nat_tests)) g)

@@ -1,7 +1,8 @@
 -- Proofs: a segment laid over the nodes of a shape: straight to its end, or to the first node on its way and on from there.
-use Rattle.std.proofs.Common.{◌≡◌, ℕ, ◌<◌, true, false, cond, ◌||◌, ◌≢◌, ◌⊎◌, List, [], ◌∷◌, ◌++◌, None, sym, refl, ap, ◌∙◌, subst, inl, inr, arith}
+use Rattle.std.proofs.Common.{◌≡◌, ℕ, ◌<◌, true, false, eqb, cond, ◌||◌, ◌≢◌, ◌⊎◌, List, [], ◌∷◌, ◌++◌, None, sym, refl, ap, ◌∙◌, subst, inl, inr, arith}
 use mathlib.Core.Path.{fun_ext}
 use Rattle.std.proofs.lemmas.Bool.Decides.{nat_tests}
+use Rattle.std.proofs.lemmas.List.Folds.{list_any-append}
 use Rattle.std.proofs.lemmas.Bool.{cases_eq, cases_Bool}
 use Rattle.heap.specs.Heaps.{Heap, without}
 use Rattle.pieces.specs.ModelRuns.{minus, Run, stop, step}
@@ -56,10 +57,6 @@ first_node m val (step {h} {e} {z} {f} {xs} p q r t) = elim (find_val val e m) [
   ]
 ]
 
-mem-++ : (a : ℕ) (xs ys : List ℕ) → mem a (xs ++ ys) ≡ (mem a xs || mem a ys)
-mem-++ a [] ys = refl
-mem-++ a (x ∷ xs) ys = let ih = mem-++ a xs ys in grind (arith, nat_tests)
-
 -- what is taken away, in one word
 minus_is : (xs : List ℕ) (h : Heap) (a : ℕ) → minus h xs a ≡ cond (mem a xs) None (h a)
 minus_is xs h a = elim (cases_Bool (mem a xs)) [ inl y ↦ let x = minus-in xs h a y in cc | inr n ↦ let x = minus-out xs h a n in cc ]
@@ -79,8 +76,8 @@ module _ (m : ℕ) (val : ℕ → ℕ) (h : Heap) where
     pub off_zero : i ≢ 0
     off_zero z = f.off_nil (ap val z ∙ M.nil)
 
-    unfoldable pub open_last_lem : ((k : ℕ) → k < m → mem (val k) f.rest ≡ false) → Model m (put edge i (Segment j)) val h
-    open_last_lem none_in =
+    pub open_last : ((k : ℕ) → k < m → mem (val k) f.rest ≡ false) → Model m (put edge i (Segment j)) val h
+    open_last none_in =
         let e = dead_on i p (run_first r d) in
         give m edge val (minus h xs) M i p e xs h (put edge i (Segment j)) (λ a on. minus-in xs h a on) (λ a o. sym (minus-out xs h a o))
         (λ k b n. let x = none_in k b in let y = val_apart m edge val (minus h xs) M k i b p n in rw f.whole (grind (arith, nat_tests)))
@@ -96,7 +93,7 @@ module _ (m : ℕ) (val : ℕ → ℕ) (h : Heap) where
 
       parts : (a : ℕ) → mem a xs ≡ (mem a ys || mem a F.after)
       unfolding ys
-      parts a = let x = mem-++ a F.before F.after in rw (f.whole, F.whole) (grind (arith, nat_tests))
+      parts a = let x = list_any-append (λ x. eqb x a) F.before F.after in rw (f.whole, F.whole) (grind (arith, nat_tests))
 
       on_after : mem (val k) F.after ≡ true
       unfolding k
@@ -162,7 +159,7 @@ module _ (m : ℕ) (val : ℕ → ℕ) (h : Heap) where
     unfolding zs
     close_via =
         let g = M.seg i k p (grind (arith, nat_tests)) in
-        let swap : minus (minus h xs) zs ≡ minus h (zs ++ xs) = fun_ext (λ a. let u = minus_is zs (minus h xs) a in let v = minus_is xs h a in let w = minus_is (zs ++ xs) h a in let y = mem-++ a zs xs in grind (arith, nat_tests)) in
+        let swap : minus (minus h xs) zs ≡ minus h (zs ++ xs) = fun_ext (λ a. let u = minus_is zs (minus h xs) a in let v = minus_is xs h a in let w = minus_is (zs ++ xs) h a in let y = list_any-append (λ x. eqb x a) zs xs in grind (arith, nat_tests)) in
         record {
           cells = zs ++ xs;
           run = run_join (run_agree h g.1 (λ a on. sym (minus-out xs h a (off_xs a on))))

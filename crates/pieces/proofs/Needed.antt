@@ -1,5 +1,6 @@
 -- Proofs: what a run does from a state does not depend on the names that it does not need.
 use Rattle.std.proofs.Common.{◌≡◌, ℕ, suc, Bool, true, false, cond, ◌&&◌, ◌||◌, ◌≢◌, List, [], ◌∷◌, Some, sym, refl, ap, ◌∙◌, subst, inl, inr, arith}
+use Rattle.std.specs.List.{filter}
 use Rattle.std.proofs.lemmas.Bool.Decides.{nat_tests}
 use Rattle.std.proofs.lemmas.Bool.{cases_eq, cases_Bool}
 use Rattle.heap.specs.Heaps.{Heap, without, IsCell, IsLseg}
@@ -9,7 +10,7 @@ use Rattle.heap.specs.declared.atoms.Atom.TheVariants.{Eq, Neq, Next, Lseg}
 use Rattle.sheet.specs.Routines.{Command, assign, load, store, new, free, jump, branch, cut, call, done}
 use Rattle.sheet.specs.Flow.{row_at}
 use Rattle.pieces.specs.Pieces.{put, mem, State, Does, Runs, here, on, Contract, touched, closing, Opening, Allowed, Lives, Keeps}
-use Rattle.pieces.specs.ModelNeeded.{mentions, mentioned, need_by_lem, in_closing, Enough, kept_by, lean}
+use Rattle.pieces.specs.ModelNeeded.{mentions, mentioned, needed_at, in_closing, Enough, lean}
 
 -- a list speaks of the names that it mentions
 same_holds : (l : List Atom) (v u : ℕ → ℕ) (h : Heap) → ((n : ℕ) → mentions n l ≡ true → v n ≡ u n) → Holds v l h → Holds u l h
@@ -37,7 +38,7 @@ module _ (callee : ℕ → Contract) (after : List Atom) (rows : List Command) (
   Agree r v u = (n : ℕ) → need r n ≡ true → v n ≡ u n
 
   abbrev Needs : ℕ → Command → Type 0
-  Needs r w = (n : ℕ) → need_by_lem (λ k. need k n) (in_closing callee after rows n) n r w ≡ true → need r n ≡ true
+  Needs r w = (n : ℕ) → needed_at (λ k. need k n) (in_closing callee after rows n) n r w ≡ true → need r n ≡ true
 
   abbrev Follows : Command → Type 0
   Follows w = (s u : State) (e : ℕ → ℕ) → Needs s.row w → Agree s.row s.env e → Does w s u → (e' : ℕ → ℕ) × Does w (with_env s e) (with_env u e') × Agree u.row u.env e'
@@ -155,7 +156,7 @@ module _ (callee : ℕ → Contract) (after : List Atom) (rows : List Command) (
 abbrev only : List ℕ → (ℕ → ℕ) → ℕ → ℕ
 only names v n = cond (mem n names) (v n) 0
 
-mem-kept : (p : ℕ → Bool) (l : List ℕ) (n : ℕ) → mem n (kept_by p l) ≡ (p n && mem n l)
+mem-kept : (p : ℕ → Bool) (l : List ℕ) (n : ℕ) → mem n (filter p l) ≡ (p n && mem n l)
 mem-kept p [] n = elim (cases_Bool (p n)) [ inl t ↦ rw t | inr t ↦ rw t ]
 mem-kept p (x ∷ l) n =
     let ih = mem-kept p l n in
@@ -170,15 +171,15 @@ module _ (callee : ℕ → Contract) (after : List Atom) (rows : List Command) (
 
   -- the state with the names that are not needed at nil
   abbrev pub bared : State → State
-  bared s = with_env s (only (kept_by wanted o.names) s.env)
+  bared s = with_env s (only (filter wanted o.names) s.env)
 
   -- a name that is wanted keeps its value: it is one of the opening's, or 0 anyway
   stays : (s : State) → Allowed o s → (n : ℕ) → wanted n ≡ true → s.env n ≡ (bared s).env n
   stays s A n t =
       let k = mem-kept wanted o.names n in
       elim (cases_Bool (mem n o.names)) [
-        | inl m ↦ let q : mem n (kept_by wanted o.names) ≡ true = k ∙ rw (t, m) in rw q
-        | inr m ↦ let q : mem n (kept_by wanted o.names) ≡ false = k ∙ rw (t, m) in rw q (A.far n m)
+        | inl m ↦ let q : mem n (filter wanted o.names) ≡ true = k ∙ rw (t, m) in rw q
+        | inr m ↦ let q : mem n (filter wanted o.names) ≡ false = k ∙ rw (t, m) in rw q (A.far n m)
       ]
 
   pub bared_allowed : (s : State) → Allowed o s → Allowed (lean need o) (bared s)

@@ -1,10 +1,11 @@
 -- Proofs: one turn of the search keeps what is found and what is left together, and the pile is worked off.
 use Rattle.std.proofs.Common.{◌≡◌, ℕ, zero, suc, ◌+◌, ◌<◌, ◌≤◌, Bool, ltb, List, [], ◌∷◌, ◌++◌, Some, None, Option, sym, refl, ap, subst, inl, inr, arith}
+use Rattle.std.specs.List.{AllByRecursion}
 use Rattle.std.proofs.lemmas.Bool.Decides.{nat_tests}
 use Rattle.std.proofs.lemmas.Bool.{cases_Bool}
 use Rattle.sheet.specs.Routines.{Command}
 use Rattle.pieces.specs.Pieces.{State, Lowest}
-use Rattle.pieces.specs.ModelChoices.{All_of, Has, lower, lowest}
+use Rattle.pieces.specs.ModelChoices.{Has, lower, lowest}
 use Rattle.pieces.specs.ModelShapes.{Shape}
 use Rattle.pieces.specs.ModelStages.{Item, Kept, Reaches, nexts_of, hits_of}
 use Rattle.pieces.specs.ModelPiles.{either, total, tree, drain}
@@ -63,7 +64,7 @@ module _ (P S : Command → State → Type 0) (test : Command → Shape → Bool
     ];
   }
 
-  pub drained : (n : ℕ) (pile : List Item) (was seen : List ℕ) → All_of Kept pile → Swept P S rows start (lowest was) pile → drain (nexts_of rows) (hits_of test rows) n pile was ≡ Some seen → Swept P S rows start (lowest seen) []
+  pub drained : (n : ℕ) (pile : List Item) (was seen : List ℕ) → AllByRecursion Kept pile → Swept P S rows start (lowest was) pile → drain (nexts_of rows) (hits_of test rows) n pile was ≡ Some seen → Swept P S rows start (lowest seen) []
   drained n [] was seen k W e = let s : was ≡ seen = cc in subst (λ l. Swept P S rows start (lowest l) []) s W
   drained zero (c ∷ pile) was seen k W e = absurd (grind (arith, nat_tests))
   drained (suc n) (c ∷ pile) was seen k W e =
@@ -89,12 +90,12 @@ total-++ : {C : Type 0} (f : C → ℕ) (a b : List C) → total f (a ++ b) ≡ 
 total-++ f [] b = omega arith
 total-++ f (x ∷ a) b = let ih = total-++ f a b in omega arith
 
-total-same : {C : Type 0} (f g : C → ℕ) (l : List C) → All_of (λ c. f c ≡ g c) l → total f l ≡ total g l
+total-same : {C : Type 0} (f g : C → ℕ) (l : List C) → AllByRecursion (λ c. f c ≡ g c) l → total f l ≡ total g l
 total-same f g [] a = refl
 total-same f g (c ∷ l) a = let x = a.0 in let ih = total-same f g l a.1 in omega arith
 
 -- the measure: where depth falls from an item to those behind it, there is one item less
-module _ {C : Type 0} (next : C → List C) (depth : C → ℕ) (Good : C → Type 0) (keeps : (c : C) → Good c → All_of (λ a. Good a × (depth a < depth c)) (next c)) where
+module _ {C : Type 0} (next : C → List C) (depth : C → ℕ) (Good : C → Type 0) (keeps : (c : C) → Good c → AllByRecursion (λ a. Good a × (depth a < depth c)) (next c)) where
   stable : (n : ℕ) (c : C) → Good c → depth c < n → tree next (suc n) c ≡ tree next n c
   stable zero c g q = absurd (omega arith)
   stable (suc n) c g q = ap suc (total-same (tree next (suc n)) (tree next n) (next c) (all_map (λ a. Good a × (depth a < depth c)) (λ a. tree next (suc n) a ≡ tree next n a) (λ a b. let l = b.1 in stable n a b.0 (omega arith)) (next c) (keeps c g)))

@@ -1,16 +1,16 @@
 -- Proofs: how many places the pile needs, and that it is worked off.
 use Rattle.std.proofs.Common.{◌≡◌, ℕ, zero, suc, ◌+◌, ◌<◌, ◌≤◌, true, false, cond, not, ◌||◌, eqb, ltb, ◌≢◌, ◌⊎◌, List, [], ◌∷◌, length, sym, refl, ap, subst, inl, inr, arith, length-append}
+use Rattle.std.specs.List.{AllByRecursion, flat_map}
 use Rattle.std.proofs.lemmas.Bool.Decides.{nat_tests}
 use Rattle.std.proofs.lemmas.Bool.{cases_eq, cases_Bool}
 use Rattle.pieces.specs.declared.shapes.Edge.{Edge}
 use Rattle.pieces.specs.declared.shapes.Edge.TheVariants.{Dead, Cell, Segment}
 use Rattle.pieces.specs.Pieces.{put}
-use Rattle.pieces.specs.ModelShapes.{Shape, set_edge, set_name, add_node, short, long, new_at_lem, new_apart}
+use Rattle.pieces.specs.ModelShapes.{Shape, set_edge, set_name, add_node, short, long, fresh_at, new_apart}
 use Rattle.heap.specs.declared.atoms.Atom.{Atom}
 use Rattle.heap.specs.declared.atoms.Atom.TheVariants.{Eq, Neq, Next, Lseg}
 use Rattle.pieces.specs.ModelCover.{is_dead}
 use Rattle.pieces.specs.ModelChoices.{gather}
-use Rattle.pieces.specs.ModelChoices.{flat, All_of}
 use Rattle.pieces.specs.ModelOpening.{place, add, clash}
 use Rattle.sheet.specs.Routines.{Command, assign, load, store, new, free, jump, branch, cut, call, done}
 use Rattle.sheet.specs.Flow.{row_at, closes}
@@ -129,23 +129,23 @@ module _ (W : ℕ → ℕ) (r : ℕ) (s : Shape) where
   abbrev FitsRoom : ℕ → Case → Type 0
   FitsRoom b c = b + for_rows (W c.row) (spare_of c.shape) ≤ suc (for_rows (W r) (spare_of s))
 
-  same_room : (t : ℕ) (u : Shape) → W t ≤ W r → spare_of u ≤ spare_of s → All_of (FitsRoom 1) (at t u)
+  same_room : (t : ℕ) (u : Shape) → W t ≤ W r → spare_of u ≤ spare_of s → AllByRecursion (FitsRoom 1) (at t u)
   same_room t u p q = (let a = rows_up (W t) (W r) (spare_of u) (spare_of s) p q in omega arith, tt)
 
   by_touch : (i : ℕ) (f : Shape → Shape) → ((u : Shape) → spare_of (f u) ≤ suc (spare_of u)) → W (suc r) < W r
-      → All_of (FitsRoom (length (flat (λ u. at (suc r) (f u)) (cells s i)))) (flat (λ u. at (suc r) (f u)) (cells s i))
+      → AllByRecursion (FitsRoom (length (flat_map (λ u. at (suc r) (f u)) (cells s i)))) (flat_map (λ u. at (suc r) (f u)) (cells s i))
   by_touch i f k p = go (s.edge i)
     where
       one : (u : Shape) (b : ℕ) → spare_of u ≤ spare_of s → b ≤ 2 → b + for_rows (W (suc r)) (spare_of (f u)) ≤ suc (for_rows (W r) (spare_of s))
       one u b q l = let a = k u in rows_touch (W (suc r)) (W r) (spare_of s) (spare_of (f u)) b p (omega arith) (omega arith)
 
-      go : (e : Edge) → All_of (FitsRoom (length (flat (λ u. at (suc r) (f u)) (cells_by e s i)))) (flat (λ u. at (suc r) (f u)) (cells_by e s i))
+      go : (e : Edge) → AllByRecursion (FitsRoom (length (flat_map (λ u. at (suc r) (f u)) (cells_by e s i)))) (flat_map (λ u. at (suc r) (f u)) (cells_by e s i))
       go Dead = tt
       go (Cell t) = (one s 1 (omega arith) (omega arith), tt)
       go (Segment t) = (one (short s i t) 2 (put_spare s i (Cell t) refl) (omega arith), (one (long s i t) 2 (long_spare s i t) (omega arith), tt))
 
   abbrev at_dead : ℕ → ℕ → List Case
-  at_dead x j = cond (eqb j 0 || not (is_dead (s.edge j))) [] (at (suc r) (new_at_lem s x j))
+  at_dead x j = cond (eqb j 0 || not (is_dead (s.edge j))) [] (at (suc r) (fresh_at s x j))
 
   few_new : (x : ℕ) → length (gather s.size (at_dead x)) ≤ spare_of s
   few_new x = gather_few s.size s.edge (at_dead x) (λ j q. elim (cases_Bool (eqb j 0 || not (is_dead (s.edge j)))) [
@@ -153,16 +153,16 @@ module _ (W : ℕ → ℕ) (r : ℕ) (s : Shape) where
     | inr t ↦ inr (rw t (omega arith), (λ z. grind (arith, nat_tests)), elim (cases_Bool (is_dead (s.edge j))) [ inl d ↦ d | inr d ↦ absurd (grind (arith, nat_tests)) ])
   ])
 
-  new_room : (x b : ℕ) → b ≤ suc (spare_of s) → W (suc r) < W r → All_of (FitsRoom b) (nexts (new x) r s)
+  new_room : (x b : ℕ) → b ≤ suc (spare_of s) → W (suc r) < W r → AllByRecursion (FitsRoom b) (nexts (new x) r s)
   new_room x b q p = (
     (let a = apart_spare s (Cell 0) refl in rows_touch (W (suc r)) (W r) (spare_of s) (spare_of (new_apart s x)) b p (omega arith) (omega arith)),
     all_gather (FitsRoom b) s.size (at_dead x) (λ j l. elim (cases_Bool (eqb j 0 || not (is_dead (s.edge j)))) [
       | inl t ↦ rw t tt
-      | inr t ↦ rw t ((let a = put_spare s j (Cell 0) refl in rows_touch (W (suc r)) (W r) (spare_of s) (spare_of (new_at_lem s x j)) b p (omega arith) (omega arith)), tt)
+      | inr t ↦ rw t ((let a = put_spare s j (Cell 0) refl in rows_touch (W (suc r)) (W r) (spare_of s) (spare_of (fresh_at s x j)) b p (omega arith) (omega arith)), tt)
     ]),
   )
 
-  cases_room : (row : Command) → WeighsAt W r row → All_of (FitsRoom (length (nexts row r s))) (nexts row r s)
+  cases_room : (row : Command) → WeighsAt W r row → AllByRecursion (FitsRoom (length (nexts row r s))) (nexts row r s)
   cases_room (assign x e) p = same_room (suc r) (set_name s x (s.name e)) p (omega arith)
   cases_room (load x y) p = by_touch (s.name y) (λ u. set_name u x (aim (u.edge (u.name y)))) (λ u. omega arith) p
   cases_room (store x e) p = by_touch (s.name x) (λ u. set_edge u (u.name x) (Cell (u.name e))) (λ u. let a = put_spare u (u.name x) (Cell (u.name e)) refl in omega arith) p
@@ -178,18 +178,18 @@ module _ (rows : List Command) (W : ℕ → ℕ) (weighs : (r : ℕ) → WeighsA
   abbrev In : ℕ → ℕ → Item → Type 0
   In b n a = b + room W a.stage a.row a.shape ≤ suc n
 
-  length-items : (l : List Case) → length (flat (λ c. item running c.row c.shape) l) ≡ length l
+  length-items : (l : List Case) → length (flat_map (λ c. item running c.row c.shape) l) ≡ length l
   length-items [] = refl
   length-items (c ∷ l) = ap suc (length-items l)
 
-  run_room : (s : Shape) → All_of (In (length (afters rows running r s)) (room W running r s)) (afters rows running r s)
+  run_room : (s : Shape) → AllByRecursion (In (length (afters rows running r s)) (room W running r s)) (afters rows running r s)
   run_room s =
       let l : List Case = onward rows (record { row = r; shape = s }) in
       rw (length-items l) (all_flat (In (length l) (room W running r s)) (FitsRoom W r s (length l)) (λ c. item running c.row c.shape) (λ c x. (x, tt)) l (cases_room W r s (row_at rows r) (weighs r)))
 
   -- atoms
   abbrev Few : Shape → List Shape → Type 0
-  Few s l = (length l ≤ 1) × All_of (λ u. spare_of u ≤ spare_of s) l
+  Few s l = (length l ≤ 1) × AllByRecursion (λ u. spare_of u ≤ spare_of s) l
 
   add_few : (a : Atom) (s : Shape) → Few s (add a s) ⊎ ((x : ℕ) × (y : ℕ) × (a ≡ Lseg x y))
   add_few (Eq x y) s = inl (elim (cases_Bool (eqb (s.name x) (s.name y))) [ inl t ↦ rw t (omega arith, (omega arith, tt)) | inr t ↦ rw t (omega arith, tt) ])
@@ -200,18 +200,18 @@ module _ (rows : List Command) (W : ℕ → ℕ) (weighs : (r : ℕ) → WeighsA
   ])
   add_few (Lseg x y) s = inr (x, y, refl)
 
-  length-adds : (l : List Atom) (us : List Shape) → length (flat (λ u. item (adding l) r u) us) ≡ length us
+  length-adds : (l : List Atom) (us : List Shape) → length (flat_map (λ u. item (adding l) r u) us) ≡ length us
   length-adds l [] = refl
   length-adds l (u ∷ us) = ap suc (length-adds l us)
 
-  adds_room : (l : List Atom) (s : Shape) (us : List Shape) → Few s us → All_of (In (length (flat (λ u. item (adding l) r u) us)) (room W (adding l) r s)) (flat (λ u. item (adding l) r u) us)
+  adds_room : (l : List Atom) (s : Shape) (us : List Shape) → Few s us → AllByRecursion (In (length (flat_map (λ u. item (adding l) r u) us)) (room W (adding l) r s)) (flat_map (λ u. item (adding l) r u) us)
   adds_room l s us (n, f) = rw (length-adds l us) (all_flat (In (length us) (room W (adding l) r s)) (λ u. spare_of u ≤ spare_of s) (λ u. item (adding l) r u)
       (λ u q. ((let a = tri_up (spare_of u) (spare_of s) q in let b = rows_up (W r) (W r) (spare_of u) (spare_of s) (omega arith) q in omega arith), tt)) us f)
 
   few_of : (a : Atom) (s : Shape) → ((x y : ℕ) → a ≢ Lseg x y) → Few s (add a s)
   few_of a s n = elim (add_few a s) [ inl f ↦ f | inr (x, y, e) ↦ absurd (n x y e) ]
 
-  add_room : (l : List Atom) (s : Shape) → All_of (In (length (afters rows (adding l) r s)) (room W (adding l) r s)) (afters rows (adding l) r s)
+  add_room : (l : List Atom) (s : Shape) → AllByRecursion (In (length (afters rows (adding l) r s)) (room W (adding l) r s)) (afters rows (adding l) r s)
   add_room [] s = (omega arith, tt)
   add_room (Eq x y ∷ l) s = adds_room l s (add (Eq x y) s) (few_of (Eq x y) s (λ a b e. grind (arith, nat_tests)))
   add_room (Neq x y ∷ l) s = adds_room l s (add (Neq x y) s) (few_of (Neq x y) s (λ a b e. grind (arith, nat_tests)))
@@ -219,7 +219,7 @@ module _ (rows : List Command) (W : ℕ → ℕ) (weighs : (r : ℕ) → WeighsA
   add_room (Lseg x y ∷ l) s = elim (cases_Bool (eqb (s.name x) (s.name y))) [ inl t ↦ rw t (omega arith, tt) | inr t ↦ rw t (omega arith, tt) ]
 
   -- a segment laid
-  link_room : (i j : ℕ) (l : List Atom) (s : Shape) → i < s.size → All_of (In (length (afters rows (linking i j l) r s)) (room W (linking i j l) r s)) (afters rows (linking i j l) r s)
+  link_room : (i j : ℕ) (l : List Atom) (s : Shape) → i < s.size → AllByRecursion (In (length (afters rows (linking i j l) r s)) (room W (linking i j l) r s)) (afters rows (linking i j l) r s)
   link_room i j l s p = elim (cases_Bool (eqb i 0 || not (is_dead (s.edge i)))) [
     | inl t ↦ rw t tt
     | inr t ↦
@@ -255,19 +255,19 @@ module _ (rows : List Command) (W : ℕ → ℕ) (weighs : (r : ℕ) → WeighsA
   few_placed : (cs : List ℕ) (l : List Atom) (u : Shape) → length (placed cs l r u) ≤ 1
   few_placed cs l u = elim (cases_Bool (clash cs u l)) [ inl t ↦ rw t (omega arith) | inr t ↦ rw t (omega arith) ]
 
-  length_places : (cs : List ℕ) (l : List Atom) (us : List Shape) → length (flat (placed cs l r) us) ≤ length us
+  length_places : (cs : List ℕ) (l : List Atom) (us : List Shape) → length (flat_map (placed cs l r) us) ≤ length us
   length_places cs l [] = omega arith
   length_places cs l (u ∷ us) =
-      let a = few_placed cs l u in let ih = length_places cs l us in let e = length-append (placed cs l r u) (flat (placed cs l r) us) in omega arith
+      let a = few_placed cs l u in let ih = length_places cs l us in let e = length-append (placed cs l r u) (flat_map (placed cs l r) us) in omega arith
 
   length-each : {A : Type 0} (f : ℕ → A) (m : ℕ) → length (gather m (λ k. f k ∷ [])) ≡ m
   length-each f zero = refl
   length-each f (suc m) = ap suc (length-each f m)
 
-  placed_room : (cs : List ℕ) (l : List Atom) (b n : ℕ) (u : Shape) → b + room W (placing cs l) r u ≤ suc n → All_of (In b n) (placed cs l r u)
+  placed_room : (cs : List ℕ) (l : List Atom) (b n : ℕ) (u : Shape) → b + room W (placing cs l) r u ≤ suc n → AllByRecursion (In b n) (placed cs l r u)
   placed_room cs l b n u q = elim (cases_Bool (clash cs u l)) [ inl t ↦ rw t tt | inr t ↦ rw t (q, tt) ]
 
-  place_room : (c : ℕ) (cs : List ℕ) (l : List Atom) (s : Shape) → All_of (In (length (afters rows (placing (c ∷ cs) l) r s)) (room W (placing (c ∷ cs) l) r s)) (afters rows (placing (c ∷ cs) l) r s)
+  place_room : (c : ℕ) (cs : List ℕ) (l : List Atom) (s : Shape) → AllByRecursion (In (length (afters rows (placing (c ∷ cs) l) r s)) (room W (placing (c ∷ cs) l) r s)) (afters rows (placing (c ∷ cs) l) r s)
   place_room c cs l s =
       let m = s.size in let p = length cs in
       let n : length (place c s) ≡ suc m = ap suc (length-each (set_name s c) m) in
@@ -316,18 +316,18 @@ module _ (rows : List Command) (fwd : Forward rows) where
   depth_low : (c : Case) → depth rows c < suc (suc (length rows))
   depth_low c = elim (cases_Bool (closes (row_at rows c.row))) [ inl t ↦ rw t (omega arith) | inr t ↦ rw t (omega arith) ]
 
-  run_falls : (r : ℕ) (s : Shape) → All_of (Nearer (deep rows running r s)) (afters rows running r s)
+  run_falls : (r : ℕ) (s : Shape) → AllByRecursion (Nearer (deep rows running r s)) (afters rows running r s)
   run_falls r s =
       let c : Case = record { row = r; shape = s } in
       elim (cases_Bool (closes (row_at rows r))) [
-        | inl t ↦ subst (λ l. All_of (Nearer (deep rows running r s)) (flat (λ a. item running a.row a.shape) l)) (sym (closed (row_at rows r) r s t)) tt
+        | inl t ↦ subst (λ l. AllByRecursion (Nearer (deep rows running r s)) (flat_map (λ a. item running a.row a.shape) l)) (sym (closed (row_at rows r) r s t)) tt
         | inr t ↦ all_flat (Nearer (deep rows running r s)) (λ a. (r < a.row) ⊎ (closes (row_at rows a.row) ≡ true)) (λ a. item running a.row a.shape) (λ a o. (deeper c a t o, tt)) (onward rows c) (goes_on rows (row_at rows r) r s (fwd r))
       ]
 
-  adds_fall : (r : ℕ) (b : Atom) (l : List Atom) (s : Shape) (us : List Shape) → All_of (λ u. spare_of u ≤ spare_of s) us → All_of (Nearer (deep rows (adding (b ∷ l)) r s)) (flat (λ u. item (adding l) r u) us)
+  adds_fall : (r : ℕ) (b : Atom) (l : List Atom) (s : Shape) (us : List Shape) → AllByRecursion (λ u. spare_of u ≤ spare_of s) us → AllByRecursion (Nearer (deep rows (adding (b ∷ l)) r s)) (flat_map (λ u. item (adding l) r u) us)
   adds_fall r b l s us f = all_flat (Nearer (deep rows (adding (b ∷ l)) r s)) (λ u. spare_of u ≤ spare_of s) (λ u. item (adding l) r u) (λ u q. (omega arith, tt)) us f
 
-  add_falls : (r : ℕ) (l : List Atom) (s : Shape) → All_of (Nearer (deep rows (adding l) r s)) (afters rows (adding l) r s)
+  add_falls : (r : ℕ) (l : List Atom) (s : Shape) → AllByRecursion (Nearer (deep rows (adding l) r s)) (afters rows (adding l) r s)
   add_falls r [] s = (let a = depth_low (record { row = r; shape = s }) in omega arith, tt)
   add_falls r (Eq x y ∷ l) s = adds_fall r (Eq x y) l s (add (Eq x y) s) (elim (cases_Bool (eqb (s.name x) (s.name y))) [ inl t ↦ rw t (omega arith, tt) | inr t ↦ rw t tt ])
   add_falls r (Neq x y ∷ l) s = adds_fall r (Neq x y) l s (add (Neq x y) s) (elim (cases_Bool (eqb (s.name x) (s.name y))) [ inl t ↦ rw t tt | inr t ↦ rw t (omega arith, tt) ])
@@ -337,7 +337,7 @@ module _ (rows : List Command) (fwd : Forward rows) where
   ])
   add_falls r (Lseg x y ∷ l) s = elim (cases_Bool (eqb (s.name x) (s.name y))) [ inl t ↦ rw t (omega arith, tt) | inr t ↦ rw t (omega arith, tt) ]
 
-  link_falls : (r i j : ℕ) (l : List Atom) (s : Shape) → i < s.size → All_of (Nearer (deep rows (linking i j l) r s)) (afters rows (linking i j l) r s)
+  link_falls : (r i j : ℕ) (l : List Atom) (s : Shape) → i < s.size → AllByRecursion (Nearer (deep rows (linking i j l) r s)) (afters rows (linking i j l) r s)
   link_falls r i j l s p = elim (cases_Bool (eqb i 0 || not (is_dead (s.edge i)))) [
     | inl t ↦ rw t tt
     | inr t ↦
@@ -351,10 +351,10 @@ module _ (rows : List Command) (fwd : Forward rows) where
         )
   ]
 
-  placed_falls : (r : ℕ) (cs : List ℕ) (l : List Atom) (n : ℕ) (u : Shape) → deep rows (placing cs l) r u < n → All_of (Nearer n) (placed cs l r u)
+  placed_falls : (r : ℕ) (cs : List ℕ) (l : List Atom) (n : ℕ) (u : Shape) → deep rows (placing cs l) r u < n → AllByRecursion (Nearer n) (placed cs l r u)
   placed_falls r cs l n u q = elim (cases_Bool (clash cs u l)) [ inl t ↦ rw t tt | inr t ↦ rw t (q, tt) ]
 
-  place_falls : (r c : ℕ) (cs : List ℕ) (l : List Atom) (s : Shape) → All_of (Nearer (deep rows (placing (c ∷ cs) l) r s)) (afters rows (placing (c ∷ cs) l) r s)
+  place_falls : (r c : ℕ) (cs : List ℕ) (l : List Atom) (s : Shape) → AllByRecursion (Nearer (deep rows (placing (c ∷ cs) l) r s)) (afters rows (placing (c ∷ cs) l) r s)
   place_falls r c cs l s = all_flat (Nearer (deep rows (placing (c ∷ cs) l) r s)) (λ u. u.size ≤ suc s.size) (placed cs l r) (λ u q. placed_falls r cs l (deep rows (placing (c ∷ cs) l) r s) u (omega arith)) (place c s)
       (omega arith, all_gather (λ u. u.size ≤ suc s.size) s.size (λ k. set_name s c k ∷ []) (λ k q. (omega arith, tt)))
 

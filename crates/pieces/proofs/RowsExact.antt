@@ -1,15 +1,15 @@
 -- Proofs: a row done in a state of a case leads to a state of a case behind it, and each such state comes from one of the case.
 use Rattle.std.proofs.Common.{◌≡◌, ℕ, suc, ◌<◌, ◌≤◌, true, false, cond, not, ◌||◌, eqb, ◌≢◌, List, [], Some, None, Option, sym, refl, ap, ◌∙◌, inl, inr, arith}
+use Rattle.std.specs.List.{AllByRecursion, flat_map}
 use Rattle.std.proofs.lemmas.Bool.Decides.{nat_tests}
 use Rattle.std.proofs.lemmas.Bool.{cases_eq, cases_Bool}
 use Rattle.heap.specs.Heaps.{Heap, without}
 use Rattle.pieces.specs.declared.shapes.Edge.{Edge}
 use Rattle.pieces.specs.declared.shapes.Edge.TheVariants.{Dead, Cell, Segment}
 use Rattle.pieces.specs.Pieces.{put}
-use Rattle.pieces.specs.ModelShapes.{Shape, Fits, SoundShape, long, new_at_lem, Allocates, set_edge, set_name, add_node}
+use Rattle.pieces.specs.ModelShapes.{Shape, Fits, SoundShape, long, fresh_at, Allocates, set_edge, set_name, add_node}
 use Rattle.pieces.specs.ModelCover.{is_dead}
 use Rattle.pieces.specs.ModelChoices.{SomeOf}
-use Rattle.pieces.specs.ModelChoices.{flat, All_of}
 use Rattle.sheet.specs.Routines.{Command, assign, load, store, new, free, jump, branch, cut, call, done}
 use Rattle.pieces.specs.Pieces.{State, Does}
 use Rattle.pieces.specs.ModelCases.{Case, cells, aim, at, nexts, Of}
@@ -66,7 +66,7 @@ pub record Celled (s : Shape) (i : ℕ) (u : Shape) : Type 0 where
   pub wide : s.size ≤ u.size
 
 module _ (s : Shape) (w : SoundShape s) (i : ℕ) (q : i < s.size) where
-  pub cells_are : All_of (Celled s i) (cells s i)
+  pub cells_are : AllByRecursion (Celled s i) (cells s i)
   cells_are = elim (cases_edge (s.edge i)) [
     | inl e ↦ rw e tt
     | inr (inl (t, e)) ↦ rw e (record { sound = w; to = t; is = e; to_in = w.cells_in i t q e; names = refl; wide = omega arith }, tt)
@@ -107,20 +107,20 @@ Before w r g = (st : State) × (st.row ≡ r) × Does w st g
 
 module _ (s : Shape) (w : SoundShape s) (i : ℕ) (q : i < s.size) (r : ℕ) (f : Shape → Shape) where
   touch_to : (env : ℕ → ℕ) (h : Heap) (F : Fits s env h) (g : State) → h (F.val i) ≢ None → g.row ≡ suc r
-      → ((u : Shape) → Celled s i u → Fits u env h → Fits (f u) g.env g.heap) → SomeOf (λ c. Of c g) (flat (λ u. at (suc r) (f u)) (cells s i))
+      → ((u : Shape) → Celled s i u → Fits u env h → Fits (f u) g.env g.heap) → SomeOf (λ c. Of c g) (flat_map (λ u. at (suc r) (f u)) (cells s i))
   touch_to env h F g live e k = some_flat (λ c. Of c g) (λ u. Celled s i u × Fits u env h) (λ u. at (suc r) (f u)) (λ u b. inl (e, k u b.0 b.1)) (cells s i)
       (some_with (λ u. Fits u env h) (Celled s i) (cells s i) (cells_to s w i q env h F live) (cells_are s w i q))
 
   touch_from : (row : Command) (g : State)
       → ((u : Shape) → Celled s i u → g.row ≡ suc r → Fits (f u) g.env g.heap → (d : Before row r g) × Fits u d.0.env d.0.heap)
-      → SomeOf (λ c. Of c g) (flat (λ u. at (suc r) (f u)) (cells s i)) → (d : Before row r g) × Fits s d.0.env d.0.heap
+      → SomeOf (λ c. Of c g) (flat_map (λ u. at (suc r) (f u)) (cells s i)) → (d : Before row r g) × Fits s d.0.env d.0.heap
   touch_from row g k S =
       let x = some_pull (λ (d : Before row r g) u. Fits u d.0.env d.0.heap) (cells s i)
       (flat_some_all (λ c. Of c g) (Celled s i) (λ u. (d : Before row r g) × Fits u d.0.env d.0.heap) (λ u. at (suc r) (f u))
       (λ u b. elim [ inl (e, F) ↦ k u b e F | inr n ↦ absurd n ]) (cells s i) (cells_are s w i q) S) in
       (x.0, cells_from s w i q x.0.0.env x.0.0.heap x.1)
 
-  touch_sound : ((u : Shape) → Celled s i u → SoundShape (f u)) → All_of (λ c. SoundShape c.shape) (flat (λ u. at (suc r) (f u)) (cells s i))
+  touch_sound : ((u : Shape) → Celled s i u → SoundShape (f u)) → AllByRecursion (λ c. SoundShape c.shape) (flat_map (λ u. at (suc r) (f u)) (cells s i))
   touch_sound k = all_flat (λ c. SoundShape c.shape) (Celled s i) (λ u. at (suc r) (f u)) (λ u b. (k u b, tt)) (cells s i) (cells_are s w i q)
 
 -- the edge at a name
@@ -143,7 +143,7 @@ abbrev From : Command → Type 0
 From row = (s : Shape) (r : ℕ) (g : State) → SoundShape s → SomeOf (λ c. Of c g) (nexts row r s) → (d : Before row r g) × Fits s d.0.env d.0.heap
 
 abbrev Keeps : Command → Type 0
-Keeps row = (s : Shape) (r : ℕ) → SoundShape s → All_of (λ c. SoundShape c.shape) (nexts row r s)
+Keeps row = (s : Shape) (r : ℕ) → SoundShape s → AllByRecursion (λ c. SoundShape c.shape) (nexts row r s)
 
 set_to : (x e : ℕ) → To (assign x e)
 set_to x e s st g w F d = rw d (inl (refl, copy_to s st.env st.heap x e F))
@@ -185,7 +185,7 @@ free_from_case x s r g w S = touch_from s w (s.name x) (w.names_in x) r (λ u. s
     ((record { row = r; env = g.env; heap = c.0 }, refl, (cell_live u g.env c.0 x C.to C.sound (named_cell s u x C) c.1, same_state g (suc r) g.env (without c.0 (g.env x)) k refl (sym c.2))), c.1)) S
 
 abbrev at_dead : Shape → ℕ → ℕ → ℕ → List Case
-at_dead s x r j = cond (eqb j 0 || not (is_dead (s.edge j))) [] (at (suc r) (new_at_lem s x j))
+at_dead s x r j = cond (eqb j 0 || not (is_dead (s.edge j))) [] (at (suc r) (fresh_at s x j))
 
 new_to : (x : ℕ) → To (new x)
 new_to x s st g w F (a, nz, vacant, d) =

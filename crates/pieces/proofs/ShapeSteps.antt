@@ -8,7 +8,7 @@ use Rattle.pieces.specs.Pieces.{mem}
 use Rattle.pieces.specs.declared.shapes.Edge.{Edge}
 use Rattle.pieces.specs.declared.shapes.Edge.TheVariants.{Dead, Cell, Segment}
 use Rattle.pieces.specs.Pieces.{put}
-use Rattle.pieces.specs.ModelShapes.{Sound, Model, Shape, Fits, SoundShape, short, long, new_at_lem, new_apart, Allocates, set_edge, set_name}
+use Rattle.pieces.specs.ModelShapes.{Sound, Model, Shape, Fits, SoundShape, short, long, fresh_at, new_apart, Allocates, set_edge, set_name}
 use Rattle.pieces.proofs.SegmentRuns.{run_dead, minus-in, minus-out, run_agree, without-same}
 use Rattle.pieces.proofs.ShapeModels.{run_first, val_apart, starts, run_live, cases_edge, apart, take, take_as, give, widen, narrow}
 
@@ -261,7 +261,7 @@ dead_node m edge val h M k q d = elim (cases_edge (edge k)) [
 ]
 
 pub alloc_to : (s : Shape) (env : ℕ → ℕ) (h : Heap) (x : ℕ) (env' : ℕ → ℕ) (h' : Heap) → SoundShape s → Fits s env h → Allocates x env h env' h'
-    → ((j : ℕ) × (j < s.size) × (j ≢ 0) × (s.edge j ≡ Dead) × Fits (new_at_lem s x j) env' h') ⊎ Fits (new_apart s x) env' h'
+    → ((j : ℕ) × (j < s.size) × (j ≢ 0) × (s.edge j ≡ Dead) × Fits (fresh_at s x j) env' h') ⊎ Fits (new_apart s x) env' h'
 alloc_to s env h x env' h' w F A = elim (find_val F.val A.place s.size) [
   | inl (k, q, e) ↦
       let d = dead_node s.size s.edge F.val h F.model k q (ap h e ∙ A.vacant) in
@@ -316,7 +316,7 @@ alloc_from_apart s x env' h' w F =
       },
     )
 
-pub alloc_from_at : (s : Shape) (x j : ℕ) (env' : ℕ → ℕ) (h' : Heap) → SoundShape s → j < s.size → j ≢ 0 → s.edge j ≡ Dead → Fits (new_at_lem s x j) env' h'
+pub alloc_from_at : (s : Shape) (x j : ℕ) (env' : ℕ → ℕ) (h' : Heap) → SoundShape s → j < s.size → j ≢ 0 → s.edge j ≡ Dead → Fits (fresh_at s x j) env' h'
     → (env : ℕ → ℕ) × (h : Heap) × Fits s env h × Allocates x env h env' h'
 alloc_from_at s x j env' h' w q nz d F =
     let M = F.model in let m = s.size in let a = F.val j in

@@ -1,5 +1,6 @@
 -- Proofs: the pile never runs out: what lies on it has room for all that comes of it.
 use Rattle.std.proofs.Common.{◌≡◌, ℕ, zero, suc, ◌+◌, ◌<◌, ◌≤◌, false, cond, not, ◌||◌, eqb, ltb, List, [], ◌∷◌, ◌++◌, length, refl, inl, inr, arith, length-append}
+use Rattle.std.specs.List.{AllByRecursion, flat_map}
 use Rattle.std.proofs.lemmas.Bool.Decides.{nat_tests}
 use Rattle.std.proofs.lemmas.Bool.{cases_Bool}
 use Rattle.heap.specs.declared.atoms.Atom.{Atom}
@@ -7,8 +8,7 @@ use Rattle.heap.specs.declared.atoms.Atom.TheVariants.{Eq, Neq, Next, Lseg}
 use Rattle.sheet.specs.Routines.{Command, assign, load, store, new, free, jump, branch, cut, call, done}
 use Rattle.sheet.specs.Flow.{row_at, closes}
 use Rattle.pieces.specs.declared.shapes.Edge.TheVariants.{Dead, Cell}
-use Rattle.pieces.specs.ModelChoices.{All_of, flat}
-use Rattle.pieces.specs.ModelShapes.{Shape, set_edge, set_name, new_at_lem}
+use Rattle.pieces.specs.ModelShapes.{Shape, set_edge, set_name, fresh_at}
 use Rattle.pieces.specs.ModelCover.{is_dead}
 use Rattle.pieces.specs.ModelOpening.{place, add, clash}
 use Rattle.pieces.specs.ModelCases.{Case, onward, nexts, cells, aim, at}
@@ -25,23 +25,23 @@ module _ (W : ℕ → ℕ) (r : ℕ) (s : Shape) where
   abbrev FitsCase : Case → Type 0
   FitsCase c = c.shape.size + W c.row ≤ 17
 
-  wider : (i : ℕ) → All_of (λ u. u.size ≤ suc s.size) (cells s i)
+  wider : (i : ℕ) → AllByRecursion (λ u. u.size ≤ suc s.size) (cells s i)
   wider i = elim (cases_edge (s.edge i)) [
     | inl e ↦ rw e tt
     | inr (inl (t, e)) ↦ rw e (omega arith, tt)
     | inr (inr (t, e)) ↦ rw e (omega arith, (omega arith, tt))
   ]
 
-  by_touch : (i : ℕ) (f : Shape → Shape) → ((u : Shape) → (f u).size ≡ u.size) → W (suc r) < W r → s.size + W r ≤ 17 → All_of FitsCase (flat (λ u. at (suc r) (f u)) (cells s i))
+  by_touch : (i : ℕ) (f : Shape → Shape) → ((u : Shape) → (f u).size ≡ u.size) → W (suc r) < W r → s.size + W r ≤ 17 → AllByRecursion FitsCase (flat_map (λ u. at (suc r) (f u)) (cells s i))
   by_touch i f same l n = all_flat FitsCase (λ u. u.size ≤ suc s.size) (λ u. at (suc r) (f u)) (λ u q. (let e = same u in omega arith, tt)) (cells s i) (wider i)
 
-  narrow_rows : (w : Command) → WeighsAt W r w → s.size + W r ≤ 17 → All_of FitsCase (nexts w r s)
+  narrow_rows : (w : Command) → WeighsAt W r w → s.size + W r ≤ 17 → AllByRecursion FitsCase (nexts w r s)
   narrow_rows (assign x e) l n = (omega arith, tt)
   narrow_rows (load x y) l n = by_touch (s.name y) (λ u. set_name u x (aim (u.edge (u.name y)))) (λ u. refl) l n
   narrow_rows (store x e) l n = by_touch (s.name x) (λ u. set_edge u (u.name x) (Cell (u.name e))) (λ u. refl) l n
   narrow_rows (new x) l n = (
     omega arith,
-    all_gather FitsCase s.size (λ j. cond (eqb j 0 || not (is_dead (s.edge j))) [] (at (suc r) (new_at_lem s x j)))
+    all_gather FitsCase s.size (λ j. cond (eqb j 0 || not (is_dead (s.edge j))) [] (at (suc r) (fresh_at s x j)))
         (λ j q. elim (cases_Bool (eqb j 0 || not (is_dead (s.edge j)))) [ inl t ↦ rw t tt | inr t ↦ rw t (omega arith, tt) ]),
   )
   narrow_rows (free x) l n = by_touch (s.name x) (λ u. set_edge u (u.name x) Dead) (λ u. refl) l n
@@ -55,13 +55,13 @@ module _ (rows : List Command) (W : ℕ → ℕ) (weighs : (r : ℕ) → WeighsA
   abbrev Slim : Item → Type 0
   Slim it = Narrow W it.stage it.row it.shape
 
-  adds_slim : (r : ℕ) (l : List Atom) (s : Shape) (us : List Shape) → s.size + W r ≤ 17 → All_of (λ u. u.size ≡ s.size) us → All_of Slim (flat (λ u. item (adding l) r u) us)
+  adds_slim : (r : ℕ) (l : List Atom) (s : Shape) (us : List Shape) → s.size + W r ≤ 17 → AllByRecursion (λ u. u.size ≡ s.size) us → AllByRecursion Slim (flat_map (λ u. item (adding l) r u) us)
   adds_slim r l s us n a = all_flat Slim (λ u. u.size ≡ s.size) (λ u. item (adding l) r u) (λ u e. (omega arith, tt)) us a
 
-  placed_slim : (cs : List ℕ) (l : List Atom) (r : ℕ) (u : Shape) → u.size + (length cs + W r) ≤ 17 → All_of Slim (placed cs l r u)
+  placed_slim : (cs : List ℕ) (l : List Atom) (r : ℕ) (u : Shape) → u.size + (length cs + W r) ≤ 17 → AllByRecursion Slim (placed cs l r u)
   placed_slim cs l r u q = elim (cases_Bool (clash cs u l)) [ inl t ↦ rw t tt | inr t ↦ rw t (q, tt) ]
 
-  pub stays_slim : (t : Stage) (r : ℕ) (s : Shape) → Narrow W t r s → All_of Slim (afters rows t r s)
+  pub stays_slim : (t : Stage) (r : ℕ) (s : Shape) → Narrow W t r s → AllByRecursion Slim (afters rows t r s)
   stays_slim (placing [] l) r s n = (omega arith, tt)
   stays_slim (placing (c ∷ cs) l) r s n = all_flat Slim (λ u. u.size + (length cs + W r) ≤ 17) (placed cs l r) (placed_slim cs l r) (place c s)
       (omega arith, all_gather (λ u. u.size + (length cs + W r) ≤ 17) s.size (λ k. set_name s c k ∷ []) (λ k q. (omega arith, tt)))
@@ -89,16 +89,16 @@ module _ (rows : List Command) (W : ℕ → ℕ) (weighs : (r : ℕ) → WeighsA
     | inr t ↦ grind (arith, nat_tests)
   ]
 
-  low_touch : (r : ℕ) (f : Shape → Shape) (us : List Shape) → suc r ≤ 41 → All_of Low (flat (λ u. at (suc r) (f u)) us)
+  low_touch : (r : ℕ) (f : Shape → Shape) (us : List Shape) → suc r ≤ 41 → AllByRecursion Low (flat_map (λ u. at (suc r) (f u)) us)
   low_touch r f us q = all_flat Low (λ u. Unit {0}) (λ u. at (suc r) (f u)) (λ u b. (q, tt)) us (all_any (λ u. Unit {0}) (λ u. tt) us)
 
-  low_rows : (w : Command) (r : ℕ) (s : Shape) → Small (length rows) w → (closes w ≡ false → suc r ≤ 41) → All_of Low (nexts w r s)
+  low_rows : (w : Command) (r : ℕ) (s : Shape) → Small (length rows) w → (closes w ≡ false → suc r ≤ 41) → AllByRecursion Low (nexts w r s)
   low_rows (assign x e) r s m q = (q refl, tt)
   low_rows (load x y) r s m q = low_touch r (λ u. set_name u x (aim (u.edge (u.name y)))) (cells s (s.name y)) (q refl)
   low_rows (store x e) r s m q = low_touch r (λ u. set_edge u (u.name x) (Cell (u.name e))) (cells s (s.name x)) (q refl)
   low_rows (new x) r s m q = (
     q refl,
-    all_gather Low s.size (λ j. cond (eqb j 0 || not (is_dead (s.edge j))) [] (at (suc r) (new_at_lem s x j)))
+    all_gather Low s.size (λ j. cond (eqb j 0 || not (is_dead (s.edge j))) [] (at (suc r) (fresh_at s x j)))
         (λ j l. elim (cases_Bool (eqb j 0 || not (is_dead (s.edge j)))) [ inl t ↦ rw t tt | inr t ↦ rw t (q refl, tt) ]),
   )
   low_rows (free x) r s m q = low_touch r (λ u. set_edge u (u.name x) Dead) (cells s (s.name x)) (q refl)
@@ -111,13 +111,13 @@ module _ (rows : List Command) (W : ℕ → ℕ) (weighs : (r : ℕ) → WeighsA
   abbrev Lowly : Item → Type 0
   Lowly it = it.row ≤ 41
 
-  adds_low : (l : List Atom) (r : ℕ) (us : List Shape) → r ≤ 41 → All_of Lowly (flat (λ u. item (adding l) r u) us)
+  adds_low : (l : List Atom) (r : ℕ) (us : List Shape) → r ≤ 41 → AllByRecursion Lowly (flat_map (λ u. item (adding l) r u) us)
   adds_low l r us q = all_flat Lowly (λ u. Unit {0}) (λ u. item (adding l) r u) (λ u b. (q, tt)) us (all_any (λ u. Unit {0}) (λ u. tt) us)
 
-  placed_low : (cs : List ℕ) (l : List Atom) (r : ℕ) (u : Shape) → r ≤ 41 → All_of Lowly (placed cs l r u)
+  placed_low : (cs : List ℕ) (l : List Atom) (r : ℕ) (u : Shape) → r ≤ 41 → AllByRecursion Lowly (placed cs l r u)
   placed_low cs l r u q = elim (cases_Bool (clash cs u l)) [ inl t ↦ rw t tt | inr t ↦ rw t (q, tt) ]
 
-  stays_low : (t : Stage) (r : ℕ) (s : Shape) → r ≤ 41 → All_of Lowly (afters rows t r s)
+  stays_low : (t : Stage) (r : ℕ) (s : Shape) → r ≤ 41 → AllByRecursion Lowly (afters rows t r s)
   stays_low (placing [] l) r s q = (q, tt)
   stays_low (placing (c ∷ cs) l) r s q = all_flat Lowly (λ u. Unit {0}) (placed cs l r) (λ u b. placed_low cs l r u q) (place c s) (all_any (λ u. Unit {0}) (λ u. tt) (place c s))
   stays_low (adding []) r s q = (q, tt)
@@ -133,7 +133,7 @@ module _ (rows : List Command) (W : ℕ → ℕ) (weighs : (r : ℕ) → WeighsA
       (low_rows (row_at rows r) r s (small r) (λ e. let i = inside r e in omega arith))
 
   -- what comes of a ready item is ready
-  pub stays_ready : (it : Item) → Ready W it → All_of (Ready W) (nexts_of rows it)
+  pub stays_ready : (it : Item) → Ready W it → AllByRecursion (Ready W) (nexts_of rows it)
   stays_ready it R = all_both Kept (λ a. Slim a × Lowly a) (Ready W) (λ a k b. record { proper = k; narrow = b.0; low = b.1 }) (nexts_of rows it)
       (keeps_items rows it.stage it.row it.shape R.proper)
       (all_both Slim Lowly (λ a. Slim a × Lowly a) (λ a x y. (x, y)) (nexts_of rows it) (stays_slim it.stage it.row it.shape R.narrow) (stays_low it.stage it.row it.shape R.low))
@@ -151,13 +151,13 @@ module _ (rows : List Command) (W : ℕ → ℕ) (weighs : (r : ℕ) → WeighsA
   room_some (linking i j l) r s = let a = rows_some (W r) (spare s.size s.edge) in omega arith
   room_some running r s = rows_some (W r) (spare s.size s.edge)
 
-  stack : (cap b n : ℕ) (rest l : List Item) → length l ≤ b → length rest + n ≤ cap → All_of (λ a. Ready W a × (b + room_of a ≤ suc n)) l → Stacked W cap rest → Stacked W cap (l ++ rest)
+  stack : (cap b n : ℕ) (rest l : List Item) → length l ≤ b → length rest + n ≤ cap → AllByRecursion (λ a. Ready W a × (b + room_of a ≤ suc n)) l → Stacked W cap rest → Stacked W cap (l ++ rest)
   stack cap b n rest [] q c a S = S
   stack cap b n rest (x ∷ l) q c a S =
       let e = length-append l rest in let r = a.0.1 in
       (a.0.0, omega arith, stack cap b n rest l (omega arith) c a.1 S)
 
-  fits_each : (it : Item) → Ready W it → All_of (λ a. length (nexts_of rows it) + room_of a ≤ suc (room_of it)) (nexts_of rows it)
+  fits_each : (it : Item) → Ready W it → AllByRecursion (λ a. length (nexts_of rows it) + room_of a ≤ suc (room_of it)) (nexts_of rows it)
   fits_each it R = room_holds rows W weighs it.stage it.row it.shape R.proper
 
   -- the items behind the top one, in its place
@@ -165,7 +165,7 @@ module _ (rows : List Command) (W : ℕ → ℕ) (weighs : (r : ℕ) → WeighsA
   stacked_next cap it rest (R, q, S) = stack cap (length (nexts_of rows it)) (room_of it) rest (nexts_of rows it) (omega arith) q
       (all_both (Ready W) (λ a. length (nexts_of rows it) + room_of a ≤ suc (room_of it)) (λ a. Ready W a × (length (nexts_of rows it) + room_of a ≤ suc (room_of it))) (λ a x y. (x, y)) (nexts_of rows it) (stays_ready it R) (fits_each it R)) S
 
-  few_of : (n m : ℕ) (l : List Item) → All_of (λ a. n + room_of a ≤ suc m) l → length l ≤ n → 1 ≤ m → n ≡ length l → length l ≤ m
+  few_of : (n m : ℕ) (l : List Item) → AllByRecursion (λ a. n + room_of a ≤ suc m) l → length l ≤ n → 1 ≤ m → n ≡ length l → length l ≤ m
   few_of n m [] a q p e = omega arith
   few_of n m (x ∷ l) a q p e = let s = room_some x.stage x.row x.shape in let b = a.0 in omega arith
 

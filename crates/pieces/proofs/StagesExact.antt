@@ -1,5 +1,6 @@
 -- Proofs: before the rows, an item says what the items behind it say.
 use Rattle.std.proofs.Common.{◌≡◌, ℕ, ◌<◌, Bool, true, false, not, ◌||◌, eqb, ◌≢◌, ◌⊎◌, List, [], ◌∷◌, sym, refl, ap, ◌∙◌, subst, inl, inr, arith}
+use Rattle.std.specs.List.{flat_map}
 use mathlib.Core.Path.{fun_ext}
 use Rattle.std.proofs.lemmas.Bool.Decides.{nat_tests}
 use Rattle.std.proofs.lemmas.Bool.{cases_eq, cases_Bool}
@@ -15,7 +16,6 @@ use Rattle.heap.specs.declared.atoms.Atom.TheVariants.{Eq, Neq, Next, Lseg}
 use Rattle.heap.specs.Lists.{Holds}
 use Rattle.pieces.specs.ModelCover.{is_dead}
 use Rattle.pieces.specs.ModelChoices.{SomeOf}
-use Rattle.pieces.specs.ModelChoices.{flat}
 use Rattle.pieces.specs.ModelOpening.{place, add, clashes, clash}
 use Rattle.sheet.specs.Routines.{Command}
 use Rattle.pieces.specs.ModelStages.{placing, adding, linking, running, item, placed, laid, afters, cleared, nothing_live, Says, Saying, StagesExactly}
@@ -23,7 +23,7 @@ use Rattle.pieces.proofs.ShapeModels.{cases_edge, val_apart, run_first, take, wi
 use Rattle.pieces.proofs.SegmentRuns.{split_comm, union, split_assoc, lseg_run, run_lseg}
 use Rattle.pieces.proofs.ShapeSteps.{find_val, run_end}
 use Rattle.pieces.proofs.CoverExact.{nothing, all_dead_from}
-use Rattle.pieces.proofs.LaySegment.{FirstNode, first_node, open_last_lem, with_k, from_k, close_via, dead_on, off_zero, k, apart_k, f, on_xs, run_nonzero}
+use Rattle.pieces.proofs.LaySegment.{FirstNode, first_node, open_last, with_k, from_k, close_via, dead_on, off_zero, k, apart_k, f, on_xs, run_nonzero}
 use Rattle.pieces.proofs.Choices.{some_gather, gather_some, some_flat, flat_some, some_pull}
 use Rattle.pieces.proofs.RowsExact.{sound_name, sound_apart}
 use Rattle.pieces.proofs.AtomsAdded.{eq_to, eq_from, neq_to, neq_from, next_to, next_from}
@@ -42,10 +42,10 @@ module _ (rows : List Command) (r : ℕ) (env : ℕ → ℕ) (h : Heap) where
   abbrev Parted : List Atom → Type 0
   Parted l = (g : Heap) × (k : Heap) × Split h g k × Holds env l k
 
-  add_to : (a : Atom) (l : List Atom) (s : Shape) (d : Parted l) → SomeOf (λ u. Fits u env d.0) (add a s) → SomeOf (Saying env h) (flat (λ u. item (adding l) r u) (add a s))
+  add_to : (a : Atom) (l : List Atom) (s : Shape) (d : Parted l) → SomeOf (λ u. Fits u env d.0) (add a s) → SomeOf (Saying env h) (flat_map (λ u. item (adding l) r u) (add a s))
   add_to a l s (g, k, sp, H) S = some_flat (Saying env h) (λ u. Fits u env g) (λ u. item (adding l) r u) (λ u F. inl (g, k, sp, F, H)) (add a s) S
 
-  add_from : (a : Atom) (l : List Atom) (s : Shape) → SomeOf (Saying env h) (flat (λ u. item (adding l) r u) (add a s)) → (d : Parted l) × SomeOf (λ u. Fits u env d.0) (add a s)
+  add_from : (a : Atom) (l : List Atom) (s : Shape) → SomeOf (Saying env h) (flat_map (λ u. item (adding l) r u) (add a s)) → (d : Parted l) × SomeOf (λ u. Fits u env d.0) (add a s)
   add_from a l s S = some_pull (λ (d : Parted l) u. Fits u env d.0) (add a s)
       (flat_some (Saying env h) (λ u. (d : Parted l) × Fits u env d.0) (λ u. item (adding l) r u) (λ u. elim [ inl (g, k, sp, F, H) ↦ ((g, k, sp, H), F) | inr n ↦ absurd n ]) (add a s) S)
 
@@ -107,9 +107,9 @@ module _ (m : ℕ) (val : ℕ → ℕ) (g : Heap) (edge : ℕ → Edge) (i j : �
   on_run F = on_xs m val g edge i j xs p q d M R F
 
   lay : Model m (put edge i (Segment j)) val g ⊎ Via
-  unfolding open_last_lem k f
+  unfolding k f
   lay = elim (first_node m val (f m val g edge i j xs p q d M R).goes_on) [
-    | inl none_in ↦ inl (open_last_lem m val g edge i j xs p q d M R none_in)
+    | inl none_in ↦ inl (open_last m val g edge i j xs p q d M R none_in)
     | inr F ↦ inr (
       F.node,
       F.in_m,

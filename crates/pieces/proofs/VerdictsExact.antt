@@ -1,17 +1,18 @@
 -- Proofs: a search that is worked off gives the verdict of the meaning, and there is only one.
-use Rattle.std.proofs.Common.{◌≡◌, ℕ, zero, suc, ◌+◌, ◌<◌, ◌≤◌, Bool, false, eqb, ◌⊎◌, List, [], ◌∷◌, ◌++◌, length, Some, None, Option, sym, refl, ap, ◌∙◌, subst, inl, inr, arith}
+use Rattle.std.proofs.Common.{◌≡◌, ℕ, zero, suc, ◌+◌, ◌<◌, ◌≤◌, Bool, false, eqb, ◌⊎◌, List, [], ◌∷◌, ◌++◌, length, Some, None, Ok, Err, Option, sym, refl, ap, ◌∙◌, subst, inl, inr, arith}
+use Rattle.std.specs.List.{filter}
 use Rattle.std.proofs.lemmas.Bool.Decides.{nat_tests}
 use Rattle.std.proofs.lemmas.List.{get_or_past}
 use Rattle.std.proofs.lemmas.Bool.{cases_Bool, cases_lt}
 use Rattle.heap.specs.declared.atoms.Atom.{Atom}
 use Rattle.sheet.specs.Routines.{Command, Routine, done}
 use Rattle.sheet.specs.Flow.{row_at}
-use Rattle.pieces.specs.declared.verdicts.Verdict.{Verdict}
-use Rattle.pieces.specs.declared.verdicts.Verdict.TheVariants.{Taken, DeadCell, FalseList}
+use Rattle.pieces.specs.declared.verdicts.Flaw.TheVariants.{DeadCell, FalseList}
+use Rattle.pieces.specs.Flaws.{Verdict}
 use Rattle.pieces.specs.Pieces.{mem, from, State, Contract, Opening, opening, behind, Comes, touched, closing, Misses, Lives, Breaks, Keeps, Right, TouchesDead, ClosesFalse, Lowest, Judged}
 use Rattle.pieces.specs.ModelChoices.{SomeOf, Has, gather, lowest}
 use Rattle.pieces.specs.ModelStages.{Item, Reaches, Apart}
-use Rattle.pieces.specs.ModelNeeded.{Enough, kept_by, lean}
+use Rattle.pieces.specs.ModelNeeded.{Enough, lean}
 use Rattle.pieces.specs.ModelSearch.{Searched, start_of, start_at, judge}
 use Rattle.pieces.proofs.Choices.{some_gather, gather_some}
 use Rattle.pieces.proofs.PileWorked.{none_has, low}
@@ -129,24 +130,24 @@ right_keeps : (callee : ℕ → Contract) (R : Routine) → Right callee R → (
 right_keeps callee R t r (g, C, e, m) = not_kept callee R.after R.rows g r e m (t g C).1
 
 pub one_verdict : (callee : ℕ → Contract) (R : Routine) (v u : Verdict) → Judged callee R v → Judged callee R u → v ≡ u
-one_verdict callee R Taken Taken a b = refl
-one_verdict callee R Taken (DeadCell k) a b = absurd (right_lives callee R a k b.0)
-one_verdict callee R Taken (FalseList k) a b = absurd (right_keeps callee R a k b.1.0)
-one_verdict callee R (DeadCell r) Taken a b = absurd (right_lives callee R b r a.0)
-one_verdict callee R (DeadCell r) (DeadCell k) a b = let x = a.1 k b.0 in let y = b.1 r a.0 in let z : r ≡ k = omega arith in ap DeadCell z
-one_verdict callee R (DeadCell r) (FalseList k) a b = absurd (b.0 r a.0)
-one_verdict callee R (FalseList r) Taken a b = absurd (right_keeps callee R b r a.1.0)
-one_verdict callee R (FalseList r) (DeadCell k) a b = absurd (a.0 k b.0)
-one_verdict callee R (FalseList r) (FalseList k) a b = let x = a.1.1 k b.1.0 in let y = b.1.1 r a.1.0 in let z : r ≡ k = omega arith in ap FalseList z
+one_verdict callee R (Ok t) (Ok u) a b = refl
+one_verdict callee R (Ok u) (Err (DeadCell k)) a b = absurd (right_lives callee R a k b.0)
+one_verdict callee R (Ok u) (Err (FalseList k)) a b = absurd (right_keeps callee R a k b.1.0)
+one_verdict callee R (Err (DeadCell r)) (Ok u) a b = absurd (right_lives callee R b r a.0)
+one_verdict callee R (Err (DeadCell r)) (Err (DeadCell k)) a b = let x = a.1 k b.0 in let y = b.1 r a.0 in let z : r ≡ k = omega arith in ap (λ n. Err (DeadCell n)) z
+one_verdict callee R (Err (DeadCell r)) (Err (FalseList k)) a b = absurd (b.0 r a.0)
+one_verdict callee R (Err (FalseList r)) (Ok u) a b = absurd (right_keeps callee R b r a.1.0)
+one_verdict callee R (Err (FalseList r)) (Err (DeadCell k)) a b = absurd (a.0 k b.0)
+one_verdict callee R (Err (FalseList r)) (Err (FalseList k)) a b = let x = a.1.1 k b.1.0 in let y = b.1.1 r a.1.0 in let z : r ≡ k = omega arith in ap (λ n. Err (FalseList n)) z
 
 -- names that an opening has are told apart
 mem-from : (m n k : ℕ) → m < n → mem m (from n k) ≡ false
 mem-from m n zero q = refl
-mem-from m n (suc k) q = let a = mem-from m (suc n) k (omega arith) in let b : eqb m n ≡ false = grind (arith, nat_tests) in rw (b, a)
+mem-from m n (suc k) q = let a = mem-from m (suc n) k (omega arith) in let b : eqb n m ≡ false = grind (arith, nat_tests) in rw (b, a)
 
 mem-both : (m n k g : ℕ) → m < n → n + k ≤ 7 → mem m (from n k ++ from 7 g) ≡ false
 mem-both m n zero g q l = mem-from m 7 g (omega arith)
-mem-both m n (suc k) g q l = let a = mem-both m (suc n) k g (omega arith) (omega arith) in let b : eqb m n ≡ false = grind (arith, nat_tests) in rw (b, a)
+mem-both m n (suc k) g q l = let a = mem-both m (suc n) k g (omega arith) (omega arith) in let b : eqb n m ≡ false = grind (arith, nat_tests) in rw (b, a)
 
 apart_from : (n k : ℕ) → Apart (from n k)
 apart_from n zero = tt
@@ -156,12 +157,12 @@ pub apart_names : (n k g : ℕ) → n + k ≤ 7 → Apart (from n k ++ from 7 g)
 apart_names n zero g l = apart_from 7 g
 apart_names n (suc k) g l = (mem-both n (suc n) k g (omega arith) (omega arith), apart_names (suc n) k g (omega arith))
 
-mem-less : (p : ℕ → Bool) (l : List ℕ) (n : ℕ) → mem n l ≡ false → mem n (kept_by p l) ≡ false
+mem-less : (p : ℕ → Bool) (l : List ℕ) (n : ℕ) → mem n l ≡ false → mem n (filter p l) ≡ false
 mem-less p [] n t = refl
 mem-less p (x ∷ l) n t =
-    let ih = mem-less p l n (grind (arith, nat_tests)) in let q : eqb n x ≡ false = grind (arith, nat_tests) in
+    let ih = mem-less p l n (grind (arith, nat_tests)) in let q : eqb x n ≡ false = grind (arith, nat_tests) in
     elim (cases_Bool (p x)) [ inl b ↦ rw (b, q, ih) | inr b ↦ rw (b, ih) ]
 
-pub apart_kept : (p : ℕ → Bool) (l : List ℕ) → Apart l → Apart (kept_by p l)
+pub apart_kept : (p : ℕ → Bool) (l : List ℕ) → Apart l → Apart (filter p l)
 apart_kept p [] a = tt
 apart_kept p (x ∷ l) a = elim (cases_Bool (p x)) [ inl b ↦ rw b (mem-less p l x a.0, apart_kept p l a.1) | inr b ↦ rw b (apart_kept p l a.1) ]

@@ -1,4 +1,5 @@
 -- What the contracts cite, and the models behind them.
+pub mod Flaws
 pub mod Pieces
 pub mod ModelRuns
 pub mod ModelChoices

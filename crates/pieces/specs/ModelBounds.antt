@@ -1,9 +1,9 @@
 -- Model: how many places the pile needs, and that it is worked off. Assumes nothing.
 use Rattle.std.specs.Prelude.{◌≡◌, ℕ, zero, suc, ◌+◌, ◌-◌, ◌<◌, ◌≤◌, cond, not, ◌||◌, List, [], ◌∷◌, length, Some, ◌==◌, slice_index, slice_index_or}
+use Rattle.std.specs.List.{AllByRecursion}
 use Rattle.pieces.specs.declared.shapes.Edge.{Edge}
 use Rattle.pieces.specs.ModelShapes.{Shape}
 use Rattle.pieces.specs.ModelCover.{is_dead}
-use Rattle.pieces.specs.ModelChoices.{All_of}
 use Rattle.sheet.specs.Routines.{Command, assign, load, store, new, free, jump, branch, cut, call, done, Routine, list_of}
 use Rattle.pieces.specs.Pieces.{Contract, Opening, opening}
 use Rattle.sheet.specs.Flow.{row_at, closes}
@@ -52,7 +52,7 @@ room W running r s = for_rows (W r) (spare s.size s.edge)
 -- the items behind an item, put on the pile in its place, need no more room
 abbrev pub RoomHolds : Type 0
 RoomHolds = (rows : List Command) (W : ℕ → ℕ) → ((r : ℕ) → WeighsAt W r (row_at rows r)) → (t : Stage) (r : ℕ) (s : Shape) → Proper t s
-    → All_of (λ a. length (afters rows t r s) + room W a.stage a.row a.shape ≤ suc (room W t r s)) (afters rows t r s)
+    → AllByRecursion (λ a. length (afters rows t r s) + room W a.stage a.row a.shape ≤ suc (room W t r s)) (afters rows t r s)
 
 -- how many rows can still be ended from a case on
 abbrev pub depth : List Command → Case → ℕ
@@ -67,7 +67,7 @@ deep rows running r s = depth rows (record { row = r; shape = s })
 
 -- the pile is worked off
 abbrev pub DepthFalls : Type 0
-DepthFalls = (rows : List Command) → Forward rows → (t : Stage) (r : ℕ) (s : Shape) → Proper t s → All_of (λ a. deep rows a.stage a.row a.shape < deep rows t r s) (afters rows t r s)
+DepthFalls = (rows : List Command) → Forward rows → (t : Stage) (r : ℕ) (s : Shape) → Proper t s → AllByRecursion (λ a. deep rows a.stage a.row a.shape < deep rows t r s) (afters rows t r s)
 
 -- the names of a row are names, its targets are rows
 abbrev pub Small : ℕ → Command → Type 0
@@ -93,12 +93,22 @@ Narrow W (adding l) r s = s.size + W r ≤ 17
 Narrow W (linking i j l) r s = s.size + W r ≤ 17
 Narrow W running r s = s.size + W r ≤ 17
 
+-- the two names of an atom
+abbrev pub left_name : Atom → ℕ
+left_name (Eq x y) = x
+left_name (Neq x y) = x
+left_name (Next x y) = x
+left_name (Lseg x y) = x
+
+abbrev pub right_name : Atom → ℕ
+right_name (Eq x y) = y
+right_name (Neq x y) = y
+right_name (Next x y) = y
+right_name (Lseg x y) = y
+
 -- the names of an atom are names
 abbrev pub AtomSmall : Atom → Type 0
-AtomSmall (Eq x y) = (x < 9) × (y < 9)
-AtomSmall (Neq x y) = (x < 9) × (y < 9)
-AtomSmall (Next x y) = (x < 9) × (y < 9)
-AtomSmall (Lseg x y) = (x < 9) × (y < 9)
+AtomSmall a = (left_name a < 9) × (right_name a < 9)
 
 -- an item that can be worked on
 pub record Ready (W : ℕ → ℕ) (it : Item) : Type 0 where

@@ -1,13 +1,14 @@
 -- Model: cases, which are shapes at a row: the cases behind a case, and the rows that fail at one. Assumes nothing.
 use Rattle.std.specs.Prelude.{◌≡◌, ℕ, suc, Bool, true, false, cond, not, ◌||◌, List, [], ◌∷◌, ◌++◌, Some, None, Option, ◌==◌, nat_lt}
+use Rattle.std.specs.List.{flat_map}
 use Rattle.heap.specs.declared.atoms.Atom.{Atom}
 use Rattle.sheet.specs.Routines.{Command, assign, load, store, new, free, jump, branch, cut, call, done}
 use Rattle.sheet.specs.Flow.{row_at, closes}
 use Rattle.pieces.specs.declared.shapes.Edge.{Edge}
 use Rattle.pieces.specs.declared.shapes.Edge.TheVariants.{Dead, Cell, Segment}
 use Rattle.pieces.specs.Pieces.{State, Runs, Contract, touched, closing}
-use Rattle.pieces.specs.ModelChoices.{flat, gather}
-use Rattle.pieces.specs.ModelShapes.{Shape, Fits, set_edge, set_name, short, long, new_at_lem, new_apart}
+use Rattle.pieces.specs.ModelChoices.{gather}
+use Rattle.pieces.specs.ModelShapes.{Shape, Fits, set_edge, set_name, short, long, fresh_at, new_apart}
 use Rattle.pieces.specs.ModelCover.{is_dead, covered}
 
 pub record Case : Type 0 where
@@ -34,10 +35,10 @@ at r s = record { row = r; shape = s } ∷ []
 -- the cases behind a case
 abbrev pub nexts : Command → ℕ → Shape → List Case
 nexts (assign x e) r s = at (suc r) (set_name s x (s.name e))
-nexts (load x y) r s = flat (λ u. at (suc r) (set_name u x (aim (u.edge (u.name y))))) (cells s (s.name y))
-nexts (store x e) r s = flat (λ u. at (suc r) (set_edge u (u.name x) (Cell (u.name e)))) (cells s (s.name x))
-nexts (new x) r s = at (suc r) (new_apart s x) ++ gather s.size (λ j. cond (j == 0 || not (is_dead (s.edge j))) [] (at (suc r) (new_at_lem s x j)))
-nexts (free x) r s = flat (λ u. at (suc r) (set_edge u (u.name x) Dead)) (cells s (s.name x))
+nexts (load x y) r s = flat_map (λ u. at (suc r) (set_name u x (aim (u.edge (u.name y))))) (cells s (s.name y))
+nexts (store x e) r s = flat_map (λ u. at (suc r) (set_edge u (u.name x) (Cell (u.name e)))) (cells s (s.name x))
+nexts (new x) r s = at (suc r) (new_apart s x) ++ gather s.size (λ j. cond (j == 0 || not (is_dead (s.edge j))) [] (at (suc r) (fresh_at s x j)))
+nexts (free x) r s = flat_map (λ u. at (suc r) (set_edge u (u.name x) Dead)) (cells s (s.name x))
 nexts (jump t) r s = at t s
 nexts (branch e f t) r s = cond (s.name e == s.name f) (at t s) (at (suc r) s)
 nexts (cut l) r s = []

@@ -1,5 +1,6 @@
 -- Model: how a list of atoms becomes shapes: the names are placed, then the atoms are added. Assumes nothing.
 use Rattle.std.specs.Prelude.{ℕ, Bool, false, cond, not, ◌||◌, List, [], ◌∷◌, ◌==◌}
+use Rattle.std.specs.List.{list_any}
 use Rattle.heap.specs.declared.atoms.Atom.{Atom}
 use Rattle.heap.specs.declared.atoms.Atom.TheVariants.{Eq, Neq, Next, Lseg}
 use Rattle.pieces.specs.declared.shapes.Edge.TheVariants.{Dead, Cell}
@@ -31,5 +32,4 @@ clashes cs s (Next x y) = false
 clashes cs s (Lseg x y) = false
 
 abbrev pub clash : List ℕ → Shape → List Atom → Bool
-clash cs s [] = false
-clash cs s (a ∷ l) = clashes cs s a || clash cs s l
+clash cs s l = list_any (clashes cs s) l

@@ -1,10 +1,10 @@
 -- Model: the search: what is found so far and what is still on the pile are together what the openings have. Assumes nothing.
-use Rattle.std.specs.Prelude.{◌≡◌, ℕ, Bool, ◌⊎◌, List, [], ◌∷◌, Some, None, Option}
+use Rattle.std.specs.Prelude.{◌≡◌, ℕ, Bool, ◌⊎◌, List, [], ◌∷◌, Some, None, Ok, Err, Option}
 use Rattle.heap.specs.declared.atoms.Atom.{Atom}
 use Rattle.sheet.specs.Routines.{Command, Routine}
 use Rattle.sheet.specs.Flow.{row_at}
-use Rattle.pieces.specs.declared.verdicts.Verdict.{Verdict}
-use Rattle.pieces.specs.declared.verdicts.Verdict.TheVariants.{Taken, DeadCell, FalseList}
+use Rattle.pieces.specs.declared.verdicts.Flaw.TheVariants.{DeadCell, FalseList}
+use Rattle.pieces.specs.Flaws.{Verdict}
 use Rattle.pieces.specs.Pieces.{State, Contract, Opening, opening, Misses, Lives, Breaks, Keeps}
 use Rattle.pieces.specs.ModelChoices.{SomeOf, Has, lowest}
 use Rattle.pieces.specs.ModelStages.{Item, Reaches, opened}
@@ -32,6 +32,6 @@ abbrev pub start_at : (ℕ → ℕ → Bool) → (ℕ → Contract) → Routine 
 start_at need callee R p = start_of need (opening callee R p)
 
 abbrev pub judge : Option ℕ → Option ℕ → Verdict
-judge (Some r) o = DeadCell r
-judge None (Some r) = FalseList r
-judge None None = Taken
+judge (Some r) o = Err (DeadCell r)
+judge None (Some r) = Err (FalseList r)
+judge None None = Ok tt

@@ -60,8 +60,8 @@ abbrev pub long : Shape → ℕ → ℕ → Shape
 long s i t = add_node (set_edge s i (Cell s.size)) (Segment t)
 
 -- the name x becomes a fresh cell, with the link nil: at a dead node, or at a node of its own
-abbrev pub new_at_lem : Shape → ℕ → ℕ → Shape
-new_at_lem s x i = set_name (set_edge s i (Cell 0)) x i
+abbrev pub fresh_at : Shape → ℕ → ℕ → Shape
+fresh_at s x i = set_name (set_edge s i (Cell 0)) x i
 
 abbrev pub new_apart : Shape → ℕ → Shape
 new_apart s x = set_name (add_node s (Cell 0)) x s.size

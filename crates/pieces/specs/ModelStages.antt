@@ -1,5 +1,6 @@
 -- Model: the items on the pile: how far the opening of a piece is done, and the case. Assumes nothing.
 use Rattle.std.specs.Prelude.{◌≡◌, ℕ, ◌<◌, Bool, true, false, cond, not, ◌||◌, ◌≢◌, List, [], ◌∷◌, None, ◌==◌}
+use Rattle.std.specs.List.{flat_map}
 use Rattle.heap.specs.Heaps.{Heap, Split}
 use Rattle.heap.specs.Lists.{Holds}
 use Rattle.heap.specs.declared.atoms.Atom.{Atom}
@@ -8,7 +9,7 @@ use Rattle.sheet.specs.Routines.{Command}
 use Rattle.pieces.specs.declared.shapes.Edge.TheVariants.{Dead, Segment}
 use Rattle.pieces.specs.Pieces.{mem, Opening, State, Runs}
 use Rattle.pieces.specs.ModelRuns.{Run, minus}
-use Rattle.pieces.specs.ModelChoices.{gather, SomeOf, flat}
+use Rattle.pieces.specs.ModelChoices.{gather, SomeOf}
 use Rattle.pieces.specs.ModelShapes.{Shape, SoundShape, Fits, set_edge}
 use Rattle.pieces.specs.ModelCover.{is_dead}
 use Rattle.pieces.specs.ModelOpening.{place, add, bare, clash}
@@ -40,14 +41,14 @@ laid s i j l r k = cond (k == i || (k == j || (k == 0 || not (is_dead (s.edge k)
 -- the items behind an item
 abbrev pub afters : List Command → Stage → ℕ → Shape → List Item
 afters rows (placing [] l) r s = item (adding l) r s
-afters rows (placing (c ∷ cs) l) r s = flat (placed cs l r) (place c s)
+afters rows (placing (c ∷ cs) l) r s = flat_map (placed cs l r) (place c s)
 afters rows (adding []) r s = item running r s
-afters rows (adding (Eq x y ∷ l)) r s = flat (λ u. item (adding l) r u) (add (Eq x y) s)
-afters rows (adding (Neq x y ∷ l)) r s = flat (λ u. item (adding l) r u) (add (Neq x y) s)
-afters rows (adding (Next x y ∷ l)) r s = flat (λ u. item (adding l) r u) (add (Next x y) s)
+afters rows (adding (Eq x y ∷ l)) r s = flat_map (λ u. item (adding l) r u) (add (Eq x y) s)
+afters rows (adding (Neq x y ∷ l)) r s = flat_map (λ u. item (adding l) r u) (add (Neq x y) s)
+afters rows (adding (Next x y ∷ l)) r s = flat_map (λ u. item (adding l) r u) (add (Next x y) s)
 afters rows (adding (Lseg x y ∷ l)) r s = cond (s.name x == s.name y) (item (adding l) r s) (item (linking (s.name x) (s.name y) l) r s)
 afters rows (linking i j l) r s = cond (i == 0 || not (is_dead (s.edge i))) [] (record { stage = adding l; row = r; shape = set_edge s i (Segment j) } ∷ gather s.size (laid s i j l r))
-afters rows running r s = flat (λ c. item running c.row c.shape) (onward rows (record { row = r; shape = s }))
+afters rows running r s = flat_map (λ c. item running c.row c.shape) (onward rows (record { row = r; shape = s }))
 
 abbrev pub cleared : List ℕ → (ℕ → ℕ) → ℕ → ℕ
 cleared cs env n = cond (mem n cs) 0 (env n)

@@ -1,12 +1,13 @@
 -- Meaning: the pieces of a routine: what opens one, the states it goes through row by row, what closes it, and the verdict on them all. Assumes nothing.
-use Rattle.std.specs.Prelude.{◌≡◌, ℕ, zero, suc, ◌≤◌, Bool, false, cond, ◌||◌, ◌≢◌, ◌⊎◌, List, [], ◌∷◌, ◌++◌, Some, None, Option, ◌==◌, slice_index_or}
+use Rattle.std.specs.Prelude.{◌≡◌, ℕ, zero, suc, ◌≤◌, Bool, false, cond, ◌≢◌, ◌⊎◌, List, [], ◌∷◌, ◌++◌, Some, None, Ok, Err, Option, ◌==◌, slice_index_or}
+use Rattle.std.specs.List.{list_any}
 use Rattle.heap.specs.Heaps.{Heap, without}
 use Rattle.heap.specs.Lists.{Holds, renamed}
 use Rattle.heap.specs.declared.atoms.Atom.{Atom}
 use Rattle.sheet.specs.Routines.{Command, assign, load, store, new, free, jump, branch, cut, call, done, Routine}
 use Rattle.sheet.specs.Flow.{row_at}
-use Rattle.pieces.specs.declared.verdicts.Verdict.{Verdict}
-use Rattle.pieces.specs.declared.verdicts.Verdict.TheVariants.{Taken, DeadCell, FalseList}
+use Rattle.pieces.specs.declared.verdicts.Flaw.TheVariants.{DeadCell, FalseList}
+use Rattle.pieces.specs.Flaws.{Verdict}
 
 -- f with v at i
 abbrev pub put : {A : Type 0} → (ℕ → A) → ℕ → A → ℕ → A
@@ -122,8 +123,7 @@ opening callee R zero = Some (record { names = from 1 R.arguments ++ from 7 R.gh
 opening callee R (suc p) = behind callee (from 1 R.variables ++ from 7 R.ghosts) (suc (suc p)) (slice_index_or R.rows p done)
 
 abbrev pub mem : ℕ → List ℕ → Bool
-mem n [] = false
-mem n (x ∷ xs) = n == x || mem n xs
+mem n xs = list_any (λ x. x == n) xs
 
 -- a state that an opening allows: all other names are 0, and its list holds
 pub record Allowed (o : Opening) (s : State) : Type 0 where
@@ -157,6 +157,6 @@ Lowest P r = P r × ((k : ℕ) → P k → r ≤ k)
 
 -- the verdict on a routine, beside the contracts of those that it may call
 abbrev pub Judged : (ℕ → Contract) → Routine → Verdict → Type 0
-Judged callee R Taken = Right callee R
-Judged callee R (DeadCell r) = Lowest (TouchesDead callee R) r
-Judged callee R (FalseList r) = ((k : ℕ) → ¬ TouchesDead callee R k) × Lowest (ClosesFalse callee R) r
+Judged callee R (Ok u) = Right callee R
+Judged callee R (Err (DeadCell r)) = Lowest (TouchesDead callee R) r
+Judged callee R (Err (FalseList r)) = ((k : ℕ) → ¬ TouchesDead callee R k) × Lowest (ClosesFalse callee R) r

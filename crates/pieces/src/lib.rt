@@ -5,4 +5,4 @@ mod shapes;
 mod verdicts;
 
 pub use shapes::{Edge, Node};
-pub use verdicts::Verdict;
+pub use verdicts::{Flaw, Verdict};

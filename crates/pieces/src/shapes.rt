@@ -4,7 +4,7 @@
 pub type Node = u8;
 
 // What is known of the cell at a node.
-#[derive(Clone, Copy)]
+#[derive(Clone, Copy, PartialEq, Eq, Debug)]
 pub enum Edge {
     // nil, or not live
     Dead,

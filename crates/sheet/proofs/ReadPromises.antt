@@ -1,20 +1,17 @@
 -- What reading promises, from the definition and its laws.
 use Rattle.std.proofs.Common.{◌≡◌, ℕ, List, Ok, Err, Result, sym, ap, ◌∙◌, arith}
 use Rattle.heap.specs.Faults.{Report}
-use Rattle.sheet.specs.declared.sheets.Body.{Body}
 use Rattle.sheet.specs.Routines.{Routine}
 use Rattle.sheet.specs.Written.{text_of}
 use Rattle.sheet.specs.Formed.{WellFormed}
-use Rattle.sheet.specs.Laid.{laid, routine_in}
 use Rattle.sheet.specs.Reading.{reading}
 use Rattle.sheet.specs.Sheets.{answered, filled_by}
-use Rattle.sheet.proofs.LaidBack.{laid_back}
 use Rattle.sheet.proofs.TextReads.{text_reads}
 
 pub answer_is : (t : List ℕ) (o : Result Routine Report) → reading t ≡ o → answered o ≡ answered (reading t)
 answer_is t o h = sym (ap answered h)
 
-pub filled_is : (t : List ℕ) (old : Body) (o : Result Routine Report) → reading t ≡ o → filled_by old o ≡ filled_by old (reading t)
+pub filled_is : (t : List ℕ) (old : Routine) (o : Result Routine Report) → reading t ≡ o → filled_by old o ≡ filled_by old (reading t)
 filled_is t old o h = sym (ap (filled_by old) h)
 
 -- what reads cannot be refused, and reads as itself
@@ -23,8 +20,5 @@ never_refused t e R h w q =
     let r : reading t ≡ Ok R = ap reading q ∙ text_reads R w in
     let z : ◌≡◌ {A = ℕ} 0 1 = cc in omega arith
 
-pub reads_itself : (t : List ℕ) (b : Body) (R : Routine) → reading t ≡ Ok (routine_in b) → WellFormed R → t ≡ text_of R → b ≡ laid R
-reads_itself t b R h w q =
-    let r : reading t ≡ Ok R = ap reading q ∙ text_reads R w in
-    let s : routine_in b ≡ R = cc in
-    sym (laid_back b) ∙ ap laid s
+pub reads_itself : (t : List ℕ) (S R : Routine) → reading t ≡ Ok S → WellFormed R → t ≡ text_of R → S ≡ R
+reads_itself t S R h w q = let r : reading t ≡ Ok R = ap reading q ∙ text_reads R w in cc

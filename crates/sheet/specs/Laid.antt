@@ -22,14 +22,6 @@ laid_row (cut l) = Cut (laid_list l)
 laid_row (call x q y z s t l) = Call x q y z s t (laid_list l)
 laid_row done = Done
 
-abbrev pub laid : Routine → Body
-laid R = record {
-  head = record { own = R.own; variables = R.variables; arguments = R.arguments; ghosts = R.ghosts };
-  before = laid_list R.before;
-  after = laid_list R.after;
-  rows = record { items = map laid_row R.rows };
-}
-
 -- and back: what lies in a sheet
 abbrev pub list_in : ArrayVec Atom → List Atom
 list_in l = l.items

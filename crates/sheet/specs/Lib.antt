@@ -8,4 +8,3 @@ pub mod Laws
 pub mod Laid
 pub mod ModelReading
 pub mod Sheets
-pub mod Contents

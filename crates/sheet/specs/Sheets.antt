@@ -2,10 +2,8 @@
 use Rattle.std.specs.Prelude.{[], ◌∷◌, Ok, Err, Result}
 use Rattle.heap.specs.declared.faults.Fault.{Fault}
 use Rattle.heap.specs.Faults.{Report, report}
-use Rattle.sheet.specs.declared.sheets.Body.{Body}
 use Rattle.sheet.specs.declared.sheets.Head.{Head}
 use Rattle.sheet.specs.Routines.{Routine, done}
-use Rattle.sheet.specs.Laid.{laid}
 
 -- routine 0 with one variable, no arguments or ghosts, empty lists and the single row 30
 abbrev pub new_routine : Routine
@@ -24,6 +22,6 @@ answered (Ok R) = Ok tt
 answered (Err e) = Err e
 
 -- the sheet is filled whole, or stays as it was
-abbrev pub filled_by : Body → Result Routine Report → Body
-filled_by old (Ok R) = laid R
+abbrev pub filled_by : Routine → Result Routine Report → Routine
+filled_by old (Ok R) = R
 filled_by old (Err e) = old

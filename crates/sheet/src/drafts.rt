@@ -18,7 +18,7 @@ pub enum Stage {
     Rows,
 }
 
-// The list to which an atom line would belong: which names it may use, and how many atoms it has.
+// The list to which an atom line would belong: which names it may use, and how many atoms it has. `except` is 0 for none, as in `Scope`.
 #[derive(Clone, Copy, PartialEq, Eq, Debug)]
 pub struct Open {
     pub named: u8,

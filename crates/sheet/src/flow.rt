@@ -153,7 +153,7 @@ impl Body {
     {
         let mut found = [0; LANDINGS];
         let rows = self.rows.as_slice();
-        // by index: `enumerate().rev()` was tried, and its loop's invariant over what is still to come did not close
+        // by index: with `iter().enumerate().rev()` the loop knows its place only by the iterator's state, and its invariant did not close
         for i in (0..rows.len()).rev() {
             found[i] = weight_of(&rows[i], i + 1, &found);
         }

@@ -77,7 +77,7 @@ pub struct Scope {
     pub variables: u8,
     pub ghosts: u8,
     pub rows: u8,
-    // the variables 1 to `named` may be named, but for `except`
+    // the variables 1 to `named` may be named, but for `except`, which is 0 for none: no Option, since nil may always be named
     pub named: u8,
     pub except: u16,
 }
@@ -304,7 +304,7 @@ fn is_named(scope: &Scope, value: u16) -> bool
     ensures small { result ≡ true → value < 256 }
 {
     value == 0
-        || value <= scope.named as u16 && value != scope.except
+        || value <= u16::from(scope.named) && value != scope.except
         || value == 7 && 1 <= scope.ghosts
         || value == 8 && 2 <= scope.ghosts
 }
@@ -317,12 +317,12 @@ fn is_allowed(scope: &Scope, class: Class, value: u16) -> bool
         Class::Unused => value == 0,
         Class::RoutineNumber => value <= 15,
         Class::VariableCount => 1 <= value && value <= 6,
-        Class::ArgumentCount => value <= 2 && value <= scope.variables as u16,
+        Class::ArgumentCount => value <= 2 && value <= u16::from(scope.variables),
         Class::GhostCount => value <= 2,
         Class::RowCount => 1 <= value && value <= 40,
-        Class::Variable => 1 <= value && value <= scope.variables as u16,
-        Class::Value => value <= scope.variables as u16,
-        Class::Target => 1 <= value && value <= scope.rows as u16,
+        Class::Variable => 1 <= value && value <= u16::from(scope.variables),
+        Class::Value => value <= u16::from(scope.variables),
+        Class::Target => 1 <= value && value <= u16::from(scope.rows),
         Class::Named => is_named(scope, value),
     }
 }

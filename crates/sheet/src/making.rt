@@ -4,7 +4,7 @@ ghost use Rattle.heap.specs.Faults.{report};
 ghost use Rattle.sheet.specs.Routines.{Routine};
 ghost use Rattle.sheet.specs.Written.{text_of};
 ghost use Rattle.sheet.specs.Formed.{WellFormed};
-ghost use Rattle.sheet.specs.Laid.{laid, laid_list, laid_row, routine_in};
+ghost use Rattle.sheet.specs.Laid.{laid_list, laid_row, routine_in};
 ghost use Rattle.sheet.specs.Reading.{reading};
 ghost use Rattle.sheet.specs.Laws.{First};
 ghost use Rattle.sheet.specs.Sheets.{new_routine, head_of, said, answered, filled_by};
@@ -16,7 +16,7 @@ use crate::sheets::{Body, Head};
 use heap::Fault;
 
 fn new_body() -> Body
-    ensures { result ≡ laid new_routine }
+    ensures { routine_in result ≡ new_routine }
 {
     let mut body = Body::empty(Head {
         variables: 1,
@@ -29,7 +29,7 @@ fn new_body() -> Body
 impl Sheet {
     // Routine 0 with one variable, no arguments or ghosts, empty lists and the single row 30.
     pub fn new() -> Sheet
-        ensures { result.body ≡ laid new_routine }
+        ensures { result ≡ new_routine }
     {
         Sheet { body: new_body() }
     }
@@ -37,10 +37,10 @@ impl Sheet {
     // Fills the sheet from a text; or answers the first thing that is wrong with the text, and leaves the sheet as it was.
     pub fn read(&mut self, text: &[u8]) -> Result<(), Fault>
         ensures answer { said result ≡ answered (reading text.now) }
-        ensures sheet { self.new.body ≡ filled_by self.old.body (reading text.now) }
-        ensures reads { MatchResult result (λ _. reading text.now ≡ Ok (routine_in self.new.body)) (λ f. reading text.now ≡ Err (report f)) }
-        ensures written { MatchResult result (λ _. WellFormed (routine_in self.new.body) × (text.now ≡ text_of (routine_in self.new.body))) (λ f. First text.now (report f)) }
-        ensures every { (R : Routine) → WellFormed R → text.now ≡ text_of R → (said result ≡ Ok tt) × (self.new.body ≡ laid R) }
+        ensures sheet { self.new ≡ filled_by self.old (reading text.now) }
+        ensures reads { MatchResult result (λ _. reading text.now ≡ Ok self.new) (λ f. reading text.now ≡ Err (report f)) }
+        ensures written { MatchResult result (λ _. WellFormed self.new × (text.now ≡ text_of self.new)) (λ f. First text.now (report f)) }
+        ensures every { (R : Routine) → WellFormed R → text.now ≡ text_of R → (said result ≡ Ok tt) × (self.new ≡ R) }
     {
         self.body = read_body(text)?;
         Ok(())
@@ -48,29 +48,31 @@ impl Sheet {
 
     // The routine's number and sizes.
     pub fn head(&self) -> Head
-        ensures { result ≡ head_of (routine_in self.now.body) }
+        ensures head { result ≡ head_of self.now }
+        ensures formed { WellFormed self.now }
     {
         self.body.head
     }
 
     // What holds where the routine begins.
     pub fn before(&self) -> &AtomList
-        ensures { result.now ≡ laid_list (routine_in self.now.body).before }
+        ensures { result.now ≡ laid_list self.now.before }
     {
         &self.body.before
     }
 
     // What holds where the routine ends.
     pub fn after(&self) -> &AtomList
-        ensures { result.now ≡ laid_list (routine_in self.now.body).after }
+        ensures { result.now ≡ laid_list self.now.after }
     {
         &self.body.after
     }
 
     // The rows in their order.
     pub fn rows(&self) -> &[Row]
-        ensures rows { result.now ≡ map laid_row (routine_in self.now.body).rows }
+        ensures rows { result.now ≡ map laid_row self.now.rows }
         ensures few { length result.now ≤ 40 }
+        ensures formed { WellFormed self.now }
     {
         self.body.rows.as_slice()
     }

@@ -1,8 +1,8 @@
 // Reading: lines into a draft, and the tests of its rows.
 ghost use Rattle.std.specs.Prelude.{◌≡◌, ◌≤◌, ◌&&◌, [], Ok, Err, MatchResult, ◌==◌, length};
 ghost use Rattle.heap.specs.Faults.{report};
-ghost use Rattle.sheet.specs.Laid.{laid, routine_in};
-ghost use Rattle.sheet.specs.Reading.{start, nothing, all_lines, complete, finished, reading};
+ghost use Rattle.sheet.specs.Laid.{routine_in};
+ghost use Rattle.sheet.specs.Reading.{start, all_lines, complete, finished, reading};
 ghost use Rattle.sheet.specs.ModelReading.{progress_in};
 
 use crate::drafts::{Draft, Stage};

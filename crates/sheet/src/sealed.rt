@@ -1,12 +1,22 @@
 // The sheet: contents that are well formed, which nothing outside can alter.
-ghost use Rattle.sheet.specs.Formed.{WellFormed};
-ghost use Rattle.sheet.specs.Laid.{routine_in};
-
 use crate::sheets::Body;
+use std::marker::Model;
 
-// The text of one list routine with its assertions, as a value. It is neither copied nor cloned: who hands a sheet on has it no more.
+// The text of one list routine with its assertions, as a value; contracts see it as that routine.
+// It is neither copied nor cloned: who hands a sheet on has it no more.
 #[derive(Drop)]
 pub struct Sheet {
     pub(crate) body: Body,
-    ghost formed: { ∥ WellFormed (routine_in body) ∥₁ },
+}
+
+impl Model for Sheet {
+    ghost use Rattle.sheet.specs.Routines.{Routine};
+    ghost use Rattle.sheet.specs.Formed.{WellFormed};
+    ghost use Rattle.sheet.specs.Laid.{routine_in};
+
+    ghost Value = { Routine };
+
+    ghost view = { λ s. routine_in s.body };
+
+    ghost invariant = { λ s. WellFormed (routine_in s.body) };
 }

@@ -1,12 +1,13 @@
 -- Proofs: the verdict that the search computes, worked off to the end, is that of the meaning.
 use Rattle.std.proofs.Common.{◌≡◌, ℕ, zero, suc, Bool, true, ◌||◌, List, [], ◌∷◌, ◌++◌, length, get_or, Some, None, Option, refl, subst, arith}
+use Rattle.std.specs.List.{AllByRecursion}
 use Rattle.std.proofs.lemmas.Bool.Decides.{nat_tests}
 use Rattle.heap.specs.Lists.{renamed}
 use Rattle.sheet.specs.Routines.{Command, assign, load, store, new, free, jump, branch, cut, call, done, Routine}
 use Rattle.sheet.specs.Formed.{WellFormed}
-use Rattle.pieces.specs.declared.verdicts.Verdict.{Verdict}
+use Rattle.pieces.specs.Flaws.{Verdict}
 use Rattle.pieces.specs.Pieces.{State, Contract, Opening, from, given, behind, Misses, Lives, Breaks, Keeps, Judged}
-use Rattle.pieces.specs.ModelChoices.{All_of, gather, lowest}
+use Rattle.pieces.specs.ModelChoices.{gather, lowest}
 use Rattle.pieces.specs.ModelShapes.{Shape}
 use Rattle.pieces.specs.ModelCases.{misses, breaks}
 use Rattle.pieces.specs.ModelStages.{Item, Kept, Apart, opened, nexts_of, hits_of}
@@ -24,7 +25,7 @@ abbrev pub every : ℕ → ℕ → Bool
 every r n = true
 
 -- where its names are told apart, the item of an opening can come up
-opening_kept : (o : Opening) → Apart o.names → All_of Kept (opened (lean every o) ∷ [])
+opening_kept : (o : Opening) → Apart o.names → AllByRecursion Kept (opened (lean every o) ∷ [])
 opening_kept o a = (opened_kept (lean every o) (apart_kept (λ n. mentions n o.list || true) o.names a), tt)
 
 enough_every : (callee : ℕ → Contract) (R : Routine) → Enough callee R.after R.rows every
@@ -48,7 +49,7 @@ abbrev pub verdict_found : (ℕ → Contract) → Routine → ℕ → Option Ver
 verdict_found callee R turns = judge_found (rows_found misses callee R turns) (rows_found (breaks callee R.after) callee R turns)
 
 -- the piece behind a row
-kept_behind : (callee : ℕ → Contract) (names : List ℕ) → Apart names → (r : ℕ) (c : Command) → All_of Kept (start_of every (behind callee names r c))
+kept_behind : (callee : ℕ → Contract) (names : List ℕ) → Apart names → (r : ℕ) (c : Command) → AllByRecursion Kept (start_of every (behind callee names r c))
 kept_behind callee names a r (assign x e) = tt
 kept_behind callee names a r (load x y) = tt
 kept_behind callee names a r (store x e) = tt
@@ -61,7 +62,7 @@ kept_behind callee names a r (call x q y z s t l) = opening_kept (record { names
 kept_behind callee names a r done = tt
 
 module _ (callee : ℕ → Contract) (R : Routine) (w : WellFormed R) where
-  kept_at : (p : ℕ) → All_of Kept (start_at every callee R p)
+  kept_at : (p : ℕ) → AllByRecursion Kept (start_at every callee R p)
   kept_at zero =
       let a = w.arguments_within in
       let v = w.few_variables in
@@ -70,7 +71,7 @@ module _ (callee : ℕ → Contract) (R : Routine) (w : WellFormed R) where
       let v = w.few_variables in
       kept_behind callee (from 1 R.variables ++ from 7 R.ghosts) (apart_names 1 R.variables R.ghosts (omega arith)) (suc (suc p)) (get_or R.rows p done)
 
-  starts_kept : All_of Kept (starts callee R)
+  starts_kept : AllByRecursion Kept (starts callee R)
   starts_kept = all_gather Kept (suc (length R.rows)) (start_at every callee R) (λ p l. kept_at p)
 
   -- one test, with the pile worked off

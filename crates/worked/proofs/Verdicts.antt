@@ -1,10 +1,10 @@
 -- Proofs: the worked sheets are as said, by computing: each is read and searched.
 use Rattle.std.proofs.Common.{◌≡◌, ℕ, Some, Ok, refl}
 use Rattle.std.specs.List.{AllByRecursion}
-use Rattle.std.proofs.ByRecursion.{All-weaker}
 use Rattle.layout.specs.Texts.{lines_of}
 use Rattle.sheet.specs.Reading.{reading}
 use Rattle.sheet.proofs.ReadsText.{reads_text}
+use Rattle.pieces.proofs.Choices.{all_map}
 use Rattle.pieces.proofs.VerdictsExact.{one_verdict}
 use Rattle.worked.specs.Callees.{alone}
 use Rattle.worked.specs.Texts.{bytes_of}
@@ -30,4 +30,4 @@ unfolding reading lines_of
 computed = ((refl, refl), ((refl, refl), ((refl, refl), ((refl, refl), ((refl, refl), ((refl, refl), ((refl, refl), ((refl, refl), ((refl, refl), ((refl, refl), ((refl, refl), ((refl, refl), ((refl, refl), tt)))))))))))))
 
 pub worked_sheets_lem : WorkedSheets
-worked_sheets_lem = All-weaker Computed AsSaid as_said sheets computed
+worked_sheets_lem = all_map Computed AsSaid as_said sheets computed

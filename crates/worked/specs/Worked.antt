@@ -1,12 +1,12 @@
 -- Meaning: thirteen worked sheets: the text of each, the routine that it is, and the verdict on it alone on a shelf. Assumes nothing.
-use Rattle.std.specs.Prelude.{◌≡◌, ℕ, List, [], ◌∷◌, Ok}
+use Rattle.std.specs.Prelude.{◌≡◌, ℕ, List, [], ◌∷◌, Ok, Err}
 use Rattle.std.specs.List.{AllByRecursion}
 use Rattle.heap.specs.declared.atoms.Atom.{Atom}
 use Rattle.heap.specs.declared.atoms.Atom.TheVariants.{Eq, Neq, Next, Lseg}
 use Rattle.sheet.specs.Routines.{Command, assign, load, store, new, free, jump, branch, cut, done, Routine}
 use Rattle.sheet.specs.Reading.{reading}
-use Rattle.pieces.specs.declared.verdicts.Verdict.{Verdict}
-use Rattle.pieces.specs.declared.verdicts.Verdict.TheVariants.{Taken, DeadCell, FalseList}
+use Rattle.pieces.specs.declared.verdicts.Flaw.TheVariants.{DeadCell, FalseList}
+use Rattle.pieces.specs.Flaws.{Verdict}
 use Rattle.pieces.specs.Pieces.{Judged}
 use Rattle.worked.specs.Callees.{alone}
 use Rattle.worked.specs.Texts.{bytes_of, text_1, text_2, text_3, text_4, text_5, text_6, text_7, text_8, text_9, text_10, text_11, text_12, text_13}
@@ -89,19 +89,19 @@ sheet lines routine verdict = record { lines = lines; routine = routine; verdict
 
 abbrev pub sheets : List Sheet
 sheets =
-    sheet text_1 routine_1 Taken ∷
-    sheet text_2 routine_2 (FalseList 1) ∷
-    sheet text_3 routine_3 (DeadCell 3) ∷
-    sheet text_4 routine_4 (FalseList 9) ∷
-    sheet text_5 routine_5 Taken ∷
-    sheet text_6 routine_6 (FalseList 1) ∷
-    sheet text_7 routine_7 Taken ∷
-    sheet text_8 routine_8 (FalseList 1) ∷
-    sheet text_9 routine_9 Taken ∷
-    sheet text_10 routine_10 Taken ∷
-    sheet text_11 routine_11 (DeadCell 1) ∷
-    sheet text_12 routine_12 Taken ∷
-    sheet text_13 routine_13 (FalseList 3) ∷ []
+    sheet text_1 routine_1 (Ok tt) ∷
+    sheet text_2 routine_2 (Err (FalseList 1)) ∷
+    sheet text_3 routine_3 (Err (DeadCell 3)) ∷
+    sheet text_4 routine_4 (Err (FalseList 9)) ∷
+    sheet text_5 routine_5 (Ok tt) ∷
+    sheet text_6 routine_6 (Err (FalseList 1)) ∷
+    sheet text_7 routine_7 (Ok tt) ∷
+    sheet text_8 routine_8 (Err (FalseList 1)) ∷
+    sheet text_9 routine_9 (Ok tt) ∷
+    sheet text_10 routine_10 (Ok tt) ∷
+    sheet text_11 routine_11 (Err (DeadCell 1)) ∷
+    sheet text_12 routine_12 (Ok tt) ∷
+    sheet text_13 routine_13 (Err (FalseList 3)) ∷ []
 
 -- the text reads as the routine, the verdict is the one given, and there is no other
 abbrev pub AsSaid : Sheet → Type 0

@@ -1,9 +1,6 @@
--- The case is the empty one, at another row and stage.
-use Rattle.std.proofs.Common.{refl, ap, ◌∙◌}
-use Rattle.cases.specs.declared.cases.Stage.TheVariants.{Running}
-use Rattle.cases.specs.Items.{shape_of}
+-- The blank case has nil alone.
 use Rattle.cases.proofs.Bare.{empty_bare}
 use Rattle.cases.proofs.cases.Case.opening.Goals as goal
 
-pub returns : goal.returns
-returns c = record { shape = ap shape_of c.blank-first.ensures ∙ empty_bare 1 Running; row = refl; stage = refl }
+pub returns-clause-shape : goal.returns-clause-shape
+returns-clause-shape c = let e = c.blank-first.ensures in empty_bare c.blank-first.result e.names e.edges e.nodes

@@ -1,42 +1,38 @@
 -- The two ways out of reading.
-use Rattle.std.proofs.Common.{sym, refl, ◌∙◌}
+use Rattle.std.proofs.Common.{refl}
 use Rattle.std.proofs.lemmas.Result.{err_from_is_err_and}
 use Rattle.sheet.specs.Laid.{routine_in}
 use Rattle.sheet.proofs.FirstFault.{refusals_first}
-use Rattle.sheet.proofs.LaidBack.{laid_back, sealed}
 use Rattle.sheet.proofs.ReadPromises.{answer_is, filled_is, never_refused, reads_itself}
 use Rattle.sheet.proofs.ReadsText.{reads_text}
 use Rattle.sheet.proofs.sealed.Sheet.read.Goals as goal
 
-pub returns-in_err-self : goal.returns-in_err-self
-returns-in_err-self c =
+pub returns-in_err-self-inside : goal.returns-in_err-self-inside
+returns-in_err-self-inside c =
     let p = err_from_is_err_and c.from_residual.result c.from_residual.ensures.1 in
-    let h = c.in_err-self.ensures in
+    let h = c.in_err-self-inside.ensures in
     let t = c.args.text.now in
     rw (p.1, p.2)
     (record {
       answer = answer_is t _ h;
-      sheet = filled_is t c.args.self.now.body _ h;
+      sheet = filled_is t c.args.self.now _ h;
       reads = h;
       written = refusals_first t _ h;
       every = λ R w q. absurd (never_refused t _ R h w q);
     })
 
 pub invariant_of-self : goal.invariant_of-self
-invariant_of-self c =
-    let b = c.in_ok-self.field-0 in
-    let R = routine_in b in
-    record { formed = sealed R b (reads_text c.args.text.now R c.in_ok-self.ensures).0 (sym (laid_back b)) }
+invariant_of-self c = (reads_text c.args.text.now (routine_in c.in_ok-self-inside.field-0) c.in_ok-self-inside.ensures).0
 
 pub returns : goal.returns
 returns c =
-    let b = c.in_ok-self.field-0 in
-    let h = c.in_ok-self.ensures in
+    let S = routine_in c.in_ok-self-inside.field-0 in
+    let h = c.in_ok-self-inside.ensures in
     let t = c.args.text.now in
     record {
       answer = answer_is t _ h;
-      sheet = sym (laid_back b) ∙ filled_is t c.args.self.now.body _ h;
+      sheet = filled_is t c.args.self.now _ h;
       reads = h;
-      written = reads_text t (routine_in b) h;
-      every = λ R w q. (refl, reads_itself t b R h w q);
+      written = reads_text t S h;
+      every = λ R w q. (refl, reads_itself t S R h w q);
     }
