@@ -1,17 +1,21 @@
 -- Meaning: what the words of a bench mean, and what each call leaves in them. Assumes nothing.
-use Rattle.std.specs.Prelude.{◌≡◌, ℕ, ◌-◌, ◌<◌, ◌≤◌, Bool, true, false, cond, ◌&&◌, List, length, replicate, Some, None, Result, MatchResult, nat_le, nat_lt, slice_index, slice_index_or}
-use Rattle.heap.specs.Faults.{report}
+use Rattle.std.specs.Prelude.{◌≡◌, ℕ, ◌-◌, ◌<◌, ◌≤◌, Bool, true, cond, ◌&&◌, List, length, Some, None, Result, nat_le, nat_lt, slice_index, slice_index_or}
 use Rattle.heap.specs.Heaps.{Heap}
 use Rattle.heap.specs.declared.faults.Fault.{Fault}
-use Rattle.store.specs.Meanings.{Kinds, Meaning, refusal}
+use Rattle.store.specs.Shared.{cleared_up_to, fitting_up_to, size_up_to, TestsUpTo, usable_up_to}
+use Rattle.store.specs.Meanings.{Kinds, Meaning}
 
 -- the lengths that a bench's list of words can have
 abbrev pub fitting : ℕ → Bool
-fitting n = nat_le 1 n && nat_le n 4095
+fitting n = fitting_up_to 4095 n
 
 -- how many cells n words make: one each, and none if n is a wrong length
 abbrev pub size : ℕ → ℕ
-size n = cond (nat_le n 4095) n 0
+size n = size_up_to 4095 n
+
+-- the words that make cells: all, and none if their number is wrong
+abbrev pub usable : List ℕ → List ℕ
+usable ws = usable_up_to 4095 ws
 
 -- whether word a - 1 holds a link: words have 16 bits, and 65,535 says that the cell is dead
 abbrev pub held : List ℕ → ℕ → Bool
@@ -31,7 +35,7 @@ bench_kinds number arguments = 1
 
 -- the words when the bench is made: all dead, and as they were if there is a wrong number of them
 abbrev pub cleared : List ℕ → List ℕ
-cleared ws = cond (fitting (length ws)) (replicate (length ws) 65535) ws
+cleared ws = cleared_up_to 4095 65535 ws
 
 -- every cell above a is live
 abbrev pub LiveAbove : List ℕ → ℕ → Type 0
@@ -46,4 +50,4 @@ pub record HighestDead (ws : List ℕ) (a : ℕ) : Type 0 where
 
 -- the test before making: nothing, or 144 at a wrong length
 abbrev pub Tests : {U : Type 0} → ℕ → Result U Fault → Type 0
-Tests n r = MatchResult r (λ _. fitting n ≡ true) (λ f. (fitting n ≡ false) × (report f ≡ refusal 144 n 1))
+Tests n r = TestsUpTo 4095 1 n r

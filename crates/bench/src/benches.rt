@@ -5,7 +5,7 @@ ghost use Rattle.bench.specs.Words.{LiveAbove, size};
 pub mod calls;
 pub mod making;
 
-// The word of a dead cell.
+// The word of a dead cell: a number and no `None`, since that is the layout of the lent words.
 const DEAD: u16 = 65535;
 
 // The most words that a bench can have.

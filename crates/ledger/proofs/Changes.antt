@@ -1,9 +1,8 @@
 -- Proofs: what the records mean after one of them was written.
-use Rattle.std.proofs.Common.{◌≡◌, ℕ, zero, suc, ◌<◌, ◌≤◌, true, false, cond, not, ◌&&◌, ◌||◌, eqb, leb, ◌⊎◌, List, [], ◌∷◌, length, get_or, set, is_some, Some, None, Option, sym, refl, ap, ◌∙◌, inl, inr, ⊎_elim, arith}
+use Rattle.std.proofs.Common.{◌≡◌, ℕ, zero, suc, ◌<◌, ◌≤◌, true, false, cond, ◌&&◌, eqb, leb, ◌⊎◌, List, [], ◌∷◌, length, get_or, set, is_some, Some, None, Option, sym, refl, ap, ◌∙◌, inl, inr, ⊎_elim, arith}
 use Rattle.heap.specs.Heaps.{put, without}
 use Rattle.ledger.specs.declared.records.Record.{Record}
 use Rattle.std.proofs.lemmas.Bool.Decides.{nat_tests}
-use Rattle.std.proofs.lemmas.Bool.{and_from, and_parts, not_from_false, not-true}
 use Rattle.ledger.proofs.Places.{record_live}
 use Rattle.ledger.specs.Counts.{nil_dead}
 use Rattle.ledger.specs.Records.{cells, proper, sound, unused}
@@ -18,10 +17,7 @@ pub record Parts (r : Record) (rs : List Record) : Type 0 where
   pub sound : sound rs ≡ true
 
 pub parts : (r : Record) (rs : List Record) → sound (r ∷ rs) ≡ true → Parts r rs
-parts r rs fine =
-    let p = and_parts (proper r) (not (is_some (cells rs r.address)) && sound rs) fine in
-    let q = and_parts (not (is_some (cells rs r.address))) (sound rs) p.1 in
-    record { proper = p.0; apart = not-true (is_some (cells rs r.address)) q.0; sound = q.1 }
+parts r rs fine = record { proper = grind (arith, nat_tests); apart = grind (arith, nat_tests); sound = grind (arith, nat_tests) }
 
 -- an address that is dead with r is dead without it, and is not that of r
 dead_less : (r : Record) (rs : List Record) (a : ℕ) → is_some (cells (r ∷ rs) a) ≡ false → is_some (cells rs a) ≡ false
@@ -63,32 +59,26 @@ records_apart (r ∷ rs) zero (suc j) fine less lt low e = apart_old r rs j (par
 records_apart (r ∷ rs) (suc i) (suc j) fine less lt low e = records_apart rs i j (parts r rs fine).sound (omega arith) (omega arith) low e
 
 none_from : (o : Option ℕ) → is_some o ≡ false → o ≡ None
-none_from (Some l) e = let z : ◌≡◌ {A = ℕ} 0 1 = cc in absurd (omega arith)
+none_from (Some l) e = cc
 none_from None e = refl
-
--- a written over b, in the first record: o is what the others say of k
-at_head : (k a b l m : ℕ) (o : Option ℕ) → (k ≡ b → o ≡ None) → cond (leb 1 k && eqb k a) (Some l) o ≡ cond (leb 1 k && eqb k a) (Some l) (cond (eqb k b) None (cond (leb 1 k && eqb k b) (Some m) o))
-at_head k a b l m o gone = grind (arith, nat_tests)
-
--- a written over b, behind a record of c
-behind : (k a b c l m : ℕ) (o : Option ℕ) → (1 ≤ c → c ≡ b → ⊥) → (1 ≤ c → c ≡ a → ⊥) → cond (leb 1 k && eqb k c) (Some m) (cond (leb 1 k && eqb k a) (Some l) (cond (eqb k b) None o)) ≡ cond (leb 1 k && eqb k a) (Some l) (cond (eqb k b) None (cond (leb 1 k && eqb k c) (Some m) o))
-behind k a b c l m o old new = grind (arith, nat_tests)
 
 -- what the records say of k after new was written over record i
 pub cells-set : (rs : List Record) (i : ℕ) (new : Record) → sound rs ≡ true → i < length rs → Allowed rs (get_or rs i unused) new → (k : ℕ) → cells (set rs i new) k ≡ cond (leb 1 k && eqb k new.address) (Some new.link) (cond (eqb k (get_or rs i unused).address) None (cells rs k))
 cells-set [] i new fine lt ok k = absurd (omega arith)
-cells-set (r ∷ rs) zero new fine lt ok k = at_head k new.address r.address new.link r.link (cells rs k) (λ e. ap (cells rs) e ∙ none_from (cells rs r.address) (parts r rs fine).apart)
+cells-set (r ∷ rs) zero new fine lt ok k =
+    let apart = none_from (cells rs r.address) (parts r rs fine).apart in
+    let same : k ≡ r.address → cells rs k ≡ None = λ e. ap (cells rs) e ∙ apart in
+    grind (arith, nat_tests)
 cells-set (r ∷ rs) (suc i) new fine lt ok k =
     let p = parts r rs fine in
     let under : i < length rs = omega arith in
-    ap (λ x. cond (leb 1 k && eqb k r.address) (Some r.link) x) (cells-set rs i new p.sound under (allowed_less r rs (get_or rs i unused) new ok) k)
-    ∙ behind k new.address (get_or rs i unused).address r.address new.link r.link (cells rs k) (apart_old r rs i p.apart under) (λ low. apart_new r rs i new p.apart under low ok)
-
-still_dead : (c a b l : ℕ) (o : Option ℕ) → is_some o ≡ false → (1 ≤ c → c ≡ a → ⊥) → is_some (cond (leb 1 c && eqb c a) (Some l) (cond (eqb c b) None o)) ≡ false
-still_dead c a b l o dead other = grind (arith, nat_tests)
+    let before = cells-set rs i new p.sound under (allowed_less r rs (get_or rs i unused) new ok) k in
+    let old = apart_old r rs i p.apart under in
+    let other = λ (low : 1 ≤ r.address). apart_new r rs i new p.apart under low ok in
+    grind (arith, nat_tests)
 
 whole : (r : Record) (rs : List Record) → proper r ≡ true → is_some (cells rs r.address) ≡ false → sound rs ≡ true → sound (r ∷ rs) ≡ true
-whole r rs p apart fine = and_from (proper r) (not (is_some (cells rs r.address)) && sound rs) p (and_from (not (is_some (cells rs r.address))) (sound rs) (not_from_false (is_some (cells rs r.address)) apart) fine)
+whole r rs p apart fine = grind (arith, nat_tests)
 
 -- the records are sound with new in place of record i
 pub sound-set : (rs : List Record) (i : ℕ) (new : Record) → sound rs ≡ true → i < length rs → Allowed rs (get_or rs i unused) new → proper new ≡ true → sound (set rs i new) ≡ true
@@ -98,7 +88,9 @@ sound-set (r ∷ rs) (suc i) new fine lt ok p =
     let q = parts r rs fine in
     let under : i < length rs = omega arith in
     let less : Allowed rs (get_or rs i unused) new = allowed_less r rs (get_or rs i unused) new ok in
-    whole r (set rs i new) q.proper (ap is_some (cells-set rs i new q.sound under less r.address) ∙ still_dead r.address new.address (get_or rs i unused).address new.link (cells rs r.address) q.apart (λ low. apart_new r rs i new q.apart under low ok)) (sound-set rs i new q.sound under less p)
+    let after = cells-set rs i new q.sound under less r.address in
+    let other = λ (low : 1 ≤ r.address). apart_new r rs i new q.apart under low ok in
+    whole r (set rs i new) q.proper (grind (arith, nat_tests)) (sound-set rs i new q.sound under less p)
 
 -- record i is that of a, or unused while a is dead
 abbrev pub Vacant : List Record → ℕ → ℕ → Type 0
@@ -107,38 +99,22 @@ Vacant rs i a = ((get_or rs i unused).address ≡ a) ⊎ (((get_or rs i unused).
 pub allowed_vacant : (rs : List Record) (i a l : ℕ) → Vacant rs i a → Allowed rs (get_or rs i unused) (record { address = a; link = l })
 allowed_vacant rs i a l ok = ⊎_elim (λ e. inl (sym e)) (λ p. inr p.1) ok
 
-over_own : (k a l : ℕ) (o : Option ℕ) → 1 ≤ a → cond (leb 1 k && eqb k a) (Some l) (cond (eqb k a) None o) ≡ cond (eqb k a) (Some l) o
-over_own k a l o low = grind (arith, nat_tests)
-
-over_unused : (k a l : ℕ) (o : Option ℕ) → 1 ≤ a → (k ≡ 0 → o ≡ None) → cond (leb 1 k && eqb k a) (Some l) (cond (eqb k 0) None o) ≡ cond (eqb k a) (Some l) o
-over_unused k a l o low nil = grind (arith, nat_tests)
-
 -- writing a cell's record gives the cell its link
 pub cells-put : (rs : List Record) (i a l : ℕ) → sound rs ≡ true → i < length rs → 1 ≤ a → Vacant rs i a → (k : ℕ) → cells (set rs i (record { address = a; link = l })) k ≡ put (cells rs) a l k
 cells-put rs i a l fine lt low ok k =
-    cells-set rs i (record { address = a; link = l }) fine lt (allowed_vacant rs i a l ok) k
-    ∙ ⊎_elim
-    (λ own. ap (λ b. cond (leb 1 k && eqb k a) (Some l) (cond (eqb k b) None (cells rs k))) own ∙ over_own k a l (cells rs k) low)
-    (λ p. ap (λ b. cond (leb 1 k && eqb k a) (Some l) (cond (eqb k b) None (cells rs k))) p.0 ∙ over_unused k a l (cells rs k) low (λ e. ap (cells rs) e ∙ nil_dead rs))
-    ok
-
-cleared_own : (k a : ℕ) (o : Option ℕ) → cond (leb 1 k && eqb k 0) (Some 0) (cond (eqb k a) None o) ≡ cond (eqb k a) None o
-cleared_own k a o = grind (arith, nat_tests)
+    let after = cells-set rs i (record { address = a; link = l }) fine lt (allowed_vacant rs i a l ok) k in
+    let nil = nil_dead rs in
+    grind (arith, nat_tests)
 
 allowed_unused : (rs : List Record) (old : Record) → Allowed rs old unused
 allowed_unused rs old = inr (ap is_some (nil_dead rs))
 
 -- clearing a cell's record takes the cell out
 pub cells-without : (rs : List Record) (i a : ℕ) → sound rs ≡ true → i < length rs → (get_or rs i unused).address ≡ a → (k : ℕ) → cells (set rs i unused) k ≡ without (cells rs) a k
-cells-without rs i a fine lt own k =
-    cells-set rs i unused fine lt (allowed_unused rs (get_or rs i unused)) k
-    ∙ (ap (λ b. cond (leb 1 k && eqb k 0) (Some 0) (cond (eqb k b) None (cells rs k))) own ∙ cleared_own k a (cells rs k))
+cells-without rs i a fine lt own k = let after = cells-set rs i unused fine lt (allowed_unused rs (get_or rs i unused)) k in grind (arith, nat_tests)
 
 pub sound-without : (rs : List Record) (i : ℕ) → sound rs ≡ true → i < length rs → sound (set rs i unused) ≡ true
 sound-without rs i fine lt = sound-set rs i unused fine lt (allowed_unused rs (get_or rs i unused)) refl
 
-proper_cell : (a l : ℕ) → 1 ≤ a → a ≤ 4095 → l ≤ 65534 → (leb a 4095 && (leb l 65534 && (leb 1 a || eqb l 0))) ≡ true
-proper_cell a l low high most = grind (arith, nat_tests)
-
 pub sound-put : (rs : List Record) (i a l : ℕ) → sound rs ≡ true → i < length rs → 1 ≤ a → a ≤ 4095 → l ≤ 65534 → Vacant rs i a → sound (set rs i (record { address = a; link = l })) ≡ true
-sound-put rs i a l fine lt low high most ok = sound-set rs i (record { address = a; link = l }) fine lt (allowed_vacant rs i a l ok) (proper_cell a l low high most)
+sound-put rs i a l fine lt low high most ok = sound-set rs i (record { address = a; link = l }) fine lt (allowed_vacant rs i a l ok) (grind (arith, nat_tests))

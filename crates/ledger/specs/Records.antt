@@ -1,19 +1,21 @@
 -- Meaning: what the records of a ledger mean, and what each call leaves in them. Assumes nothing.
-use Rattle.std.specs.Prelude.{◌≡◌, ℕ, suc, ◌+◌, ◌<◌, ◌≤◌, Bool, true, false, cond, not, ◌&&◌, ◌||◌, List, [], ◌∷◌, length, replicate, is_some, Some, None, ◌==◌, ◌≢◌, nat_le, nat_lt, slice_index_or}
+use Rattle.std.specs.Prelude.{◌≡◌, ℕ, ◌+◌, ◌<◌, ◌≤◌, Bool, true, false, cond, not, ◌&&◌, ◌||◌, List, [], ◌∷◌, length, is_some, Some, None, Option, MatchOption, ◌==◌, ◌≢◌, nat_le, nat_lt, slice_index_or}
+use Rattle.std.specs.List.{position_or_len}
 use Rattle.heap.specs.Heaps.{Heap}
 use Rattle.ledger.specs.declared.records.Record.{Record}
 use Rattle.store.specs.Meanings.{Kinds, live_cells, Meaning}
+use Rattle.store.specs.Shared.{cleared_up_to, fitting_up_to, size_up_to, usable_up_to}
 
 abbrev pub unused : Record
 unused = record { address = 0; link = 0 }
 
 -- the lengths that a ledger's list of records can have
 abbrev pub fitting : ℕ → Bool
-fitting n = nat_le 1 n && nat_le n 512
+fitting n = fitting_up_to 512 n
 
 -- how many cells n records can hold: one each, and none if n is a wrong length
 abbrev pub size : ℕ → ℕ
-size n = cond (fitting n) n 0
+size n = size_up_to 512 n
 
 -- the highest address over n records
 abbrev pub top_of : ℕ → ℕ
@@ -21,7 +23,7 @@ top_of n = cond (fitting n) 4095 0
 
 -- the records that cells can lie in: all, and none if their number is wrong
 abbrev pub usable : List Record → List Record
-usable rs = cond (fitting (length rs)) rs []
+usable rs = usable_up_to 512 rs
 
 -- the link of a is that of the first record of a; 0 is the address of no cell
 abbrev pub cells : List Record → Heap
@@ -30,8 +32,7 @@ cells (r ∷ rs) a = cond (nat_le 1 a && a == r.address) (Some r.link) (cells rs
 
 -- the place of the first record with the address a, and the length if there is none; that of 0 is the first unused record
 abbrev pub place : List Record → ℕ → ℕ
-place [] a = 0
-place (r ∷ rs) a = cond (a == r.address) 0 (suc (place rs a))
+place rs a = position_or_len (λ r. a == r.address) rs
 
 -- how many records are in use
 abbrev pub used : List Record → ℕ
@@ -57,7 +58,7 @@ ledger_kinds number arguments = 2
 
 -- the records when the ledger is made: all unused, and as they were if there is a wrong number of them
 abbrev pub cleared : List Record → List Record
-cleared rs = cond (fitting (length rs)) (replicate (length rs) unused) rs
+cleared rs = cleared_up_to 512 unused rs
 
 -- record i is that of the cell a, the first with this address
 pub record IsCell (rs : List Record) (a i : ℕ) : Type 0 where
@@ -81,18 +82,26 @@ pub record IsUnused (rs : List Record) (i : ℕ) : Type 0 where
   pub address : (slice_index_or rs i unused).address ≡ 0
   pub room : live_cells (meant rs) < size (length rs)
 
--- what the place i of the address a tells
-pub record Found (rs : List Record) (a i : ℕ) : Type 0 where
-  pub most : i ≤ size (length rs)
-  pub cell : 1 ≤ a → i < size (length rs) → IsCell rs a i
-  pub dead : size (length rs) ≤ i → is_some (cells (usable rs) a) ≡ false
+-- what the search for the first record with the address a tells: its place, or none
+pub record Found (rs : List Record) (a : ℕ) (place : Option ℕ) : Type 0 where
+  pub cell : 1 ≤ a → MatchOption place (is_some (cells (usable rs) a) ≡ false) (λ i. IsCell rs a i)
   pub nil : a ≡ 0 → is_some (cells (usable rs) a) ≡ false
-  pub unused : a ≡ 0 → i < size (length rs) → IsUnused rs i
-  pub full : a ≡ 0 → size (length rs) ≤ i → live_cells (meant rs) ≡ size (length rs)
+  pub unused : a ≡ 0 → MatchOption place (live_cells (meant rs) ≡ size (length rs)) (λ i. IsUnused rs i)
 
 -- whether record i can become that of the cell a: it is already, or it is unused and a is dead
 abbrev pub vacant : List Record → ℕ → ℕ → Bool
 vacant rs i a = (slice_index_or rs i unused).address == a || ((slice_index_or rs i unused).address == 0 && not (is_some (cells (usable rs) a)))
+
+-- the addresses from l on and below m are live
+abbrev pub AllLive : List Record → ℕ → ℕ → Type 0
+AllLive rs l m = (k : ℕ) → l ≤ k → k < m → is_some (cells (usable rs) k) ≡ true
+
+-- a is the first address from l on that is not live
+pub record FirstDead (rs : List Record) (l a : ℕ) : Type 0 where
+  pub low : l ≤ a
+  pub high : a ≤ 4095
+  pub dead : is_some (cells (usable rs) a) ≡ false
+  pub before : AllLive rs l a
 
 -- whether k is passed on the way from the address l to a, where 4,095 is followed by 1
 abbrev pub passed : ℕ → ℕ → ℕ → Bool

@@ -7,12 +7,6 @@ use crate::records::Record;
 pub mod calls;
 pub mod making;
 
-// A record that is not in use.
-const UNUSED: Record = Record {
-    address: 0,
-    link: 0,
-};
-
 // The most records that a ledger can have.
 const MOST: usize = 512;
 

@@ -28,20 +28,13 @@ mod tests {
         link: 7,
     };
 
-    // The number of a refusal with its place, and 0 for an answer.
-    fn refused<T: Drop>(r: Result<T, Fault>) -> (u16, usize) {
-        match r {
-            Ok(_) => (0, 0),
-            Err(f) => (f.number(), f.place),
-        }
+    fn record(address: u16, link: u16) -> Record {
+        Record { address, link }
     }
 
-    // The address that a take gave, and 0 for none.
-    fn given(r: Result<u16, Fault>) -> u16 {
-        match r {
-            Ok(a) => a,
-            Err(_) => 0,
-        }
+    // An answer, or the number of a refusal with its place.
+    fn told<T>(answer: Result<T, Fault>) -> Result<T, (u16, usize)> {
+        answer.map_err(|fault| (fault.number(), fault.place))
     }
 
     #[test]
@@ -51,15 +44,15 @@ mod tests {
             let mut s = Ledger::over(&mut records);
             assert_eq!(rt; s.top(), 4095);
             assert_eq!(rt; s.left(), 1);
-            assert_eq!(rt; given(s.take()), 1);
-            assert_eq!(rt; refused(s.take()), (143, 0));
-            assert_eq!(rt; refused(s.write(1, 65534)), (0, 0));
-            assert_eq!(rt; given(s.read(1)), 65534);
-            assert_eq!(rt; refused(s.free(1)), (0, 0));
-            assert_eq!(rt; refused(s.free(1)), (141, 1));
-            assert_eq!(rt; given(s.take()), 2);
+            assert_eq!(rt; told(s.take()), Ok(1));
+            assert_eq!(rt; told(s.take()), Err((143, 0)));
+            assert_eq!(rt; told(s.write(1, 65534)), Ok(()));
+            assert_eq!(rt; told(s.read(1)), Ok(65534));
+            assert_eq!(rt; told(s.free(1)), Ok(()));
+            assert_eq!(rt; told(s.free(1)), Err((141, 1)));
+            assert_eq!(rt; told(s.take()), Ok(2));
         }
-        assert!(rt; records[0].address == 2 && records[0].link == 0);
+        assert!(rt; records == [record(2, 0)]);
     }
 
     // Freed records are used again from the first on, and addresses go on behind the last one given.
@@ -68,35 +61,34 @@ mod tests {
         let mut records = [STALE; 3];
         {
             let mut s = Ledger::over(&mut records);
-            assert_eq!(rt; given(s.take()), 1);
-            assert_eq!(rt; given(s.take()), 2);
-            assert_eq!(rt; given(s.take()), 3);
-            assert_eq!(rt; refused(s.take()), (143, 0));
-            assert_eq!(rt; refused(s.free(2)), (0, 0));
-            assert_eq!(rt; refused(s.free(1)), (0, 0));
-            assert_eq!(rt; refused(s.free(3)), (0, 0));
+            assert_eq!(rt; told(s.take()), Ok(1));
+            assert_eq!(rt; told(s.take()), Ok(2));
+            assert_eq!(rt; told(s.take()), Ok(3));
+            assert_eq!(rt; told(s.take()), Err((143, 0)));
+            assert_eq!(rt; told(s.free(2)), Ok(()));
+            assert_eq!(rt; told(s.free(1)), Ok(()));
+            assert_eq!(rt; told(s.free(3)), Ok(()));
             assert_eq!(rt; s.left(), 3);
-            assert_eq!(rt; given(s.take()), 4);
-            assert_eq!(rt; refused(s.write(4, 9)), (0, 0));
+            assert_eq!(rt; told(s.take()), Ok(4));
+            assert_eq!(rt; told(s.write(4, 9)), Ok(()));
         }
-        assert!(rt; records[0].address == 4 && records[0].link == 9);
-        assert!(rt; records[1].address == 0 && records[2].link == 0);
+        assert!(rt; records == [record(4, 9), Record::UNUSED, Record::UNUSED]);
     }
 
     #[test]
     fn any_number(rt: HostRuntime) {
         let mut records = [STALE; 2];
         let mut s = Ledger::over(&mut records);
-        assert_eq!(rt; given(s.take()), 1);
+        assert_eq!(rt; told(s.take()), Ok(1));
         assert!(rt; s.live(1) && !s.live(0) && !s.live(4096) && !s.live(65535));
-        assert_eq!(rt; refused(s.read(0)), (141, 0));
-        assert_eq!(rt; refused(s.read(4096)), (141, 4096));
-        assert_eq!(rt; refused(s.free(65535)), (141, 65535));
-        assert_eq!(rt; refused(s.write(65537, 0)), (141, 65537));
-        assert_eq!(rt; refused(s.write(0, 65535)), (141, 0));
-        assert_eq!(rt; refused(s.write(1, 65535)), (142, 65535));
-        assert_eq!(rt; refused(s.write(1, 4096)), (0, 0));
-        assert_eq!(rt; given(s.read(1)), 4096);
+        assert_eq!(rt; told(s.read(0)), Err((141, 0)));
+        assert_eq!(rt; told(s.read(4096)), Err((141, 4096)));
+        assert_eq!(rt; told(s.free(65535)), Err((141, 65535)));
+        assert_eq!(rt; told(s.write(65537, 0)), Err((141, 65537)));
+        assert_eq!(rt; told(s.write(0, 65535)), Err((141, 0)));
+        assert_eq!(rt; told(s.write(1, 65535)), Err((142, 65535)));
+        assert_eq!(rt; told(s.write(1, 4096)), Ok(()));
+        assert_eq!(rt; told(s.read(1)), Ok(4096));
     }
 
     // Behind 4,095 comes 1, or the first address behind it that is not live.
@@ -104,46 +96,42 @@ mod tests {
     fn wrap(rt: HostRuntime) {
         let mut records = [STALE; 2];
         let mut s = Ledger::over(&mut records);
-        assert_eq!(rt; given(s.take()), 1);
-        for a in 2..4096u32 {
-            assert_eq!(rt; given(s.take()) as u32, a);
-            assert_eq!(rt; refused(s.free(a)), (0, 0));
+        assert_eq!(rt; told(s.take()), Ok(1));
+        for a in 2..4096 {
+            assert_eq!(rt; told(s.take()), Ok(a));
+            assert_eq!(rt; told(s.free(u32::from(a))), Ok(()));
         }
-        assert_eq!(rt; given(s.take()), 2);
-        assert_eq!(rt; refused(s.free(1)), (0, 0));
-        assert_eq!(rt; given(s.take()), 3);
+        assert_eq!(rt; told(s.take()), Ok(2));
+        assert_eq!(rt; told(s.free(1)), Ok(()));
+        assert_eq!(rt; told(s.take()), Ok(3));
     }
 
     // A list of a wrong length is refused, and a store over it has no cell and writes nothing.
     #[test]
     fn wrong_lengths(rt: HostRuntime) {
         let mut none: [Record; 0] = [];
-        assert_eq!(rt; refused(ledger::check(&none)), (144, 0));
-        assert_eq!(rt; refused(Ledger::over(&mut none).take()), (143, 0));
+        assert_eq!(rt; told(ledger::check(&none)), Err((144, 0)));
+        assert_eq!(rt; told(Ledger::over(&mut none).take()), Err((143, 0)));
         let mut long = [STALE; 513];
-        assert_eq!(rt; refused(ledger::check(&long)), (144, 513));
-        assert_eq!(rt; refused(ledger::check(&long[0..512])), (0, 0));
+        assert_eq!(rt; told(ledger::check(&long)), Err((144, 513)));
+        assert_eq!(rt; told(ledger::check(&long[0..512])), Ok(()));
         {
             let mut s = Ledger::over(&mut long);
             assert_eq!(rt; s.top(), 0);
             assert_eq!(rt; s.left(), 0);
-            assert_eq!(rt; refused(s.read(7)), (141, 7));
-            assert_eq!(rt; refused(s.write(7, 1)), (141, 7));
-            assert_eq!(rt; refused(s.free(7)), (141, 7));
-            assert_eq!(rt; refused(s.take()), (143, 0));
+            assert_eq!(rt; told(s.read(7)), Err((141, 7)));
+            assert_eq!(rt; told(s.write(7, 1)), Err((141, 7)));
+            assert_eq!(rt; told(s.free(7)), Err((141, 7)));
+            assert_eq!(rt; told(s.take()), Err((143, 0)));
         }
-        assert!(rt; long[0].address == 7 && long[512].link == 7);
+        assert!(rt; long == [STALE; 513]);
     }
 
     #[test]
     fn kinds(rt: HostRuntime) {
         let mut records = [STALE; 1];
         let mut s = Ledger::over(&mut records);
-        let kind = match s.read(1) {
-            Ok(_) => 0,
-            Err(f) => f.kind,
-        };
-        assert_eq!(rt; kind, <Ledger<'_> as Store>::KIND);
-        assert_eq!(rt; kind, 2);
+        assert_eq!(rt; s.read(1).map_err(|fault| fault.kind), Err(2));
+        assert_eq!(rt; <Ledger<'_> as Store>::KIND, 2);
     }
 }

@@ -1,2 +1,3 @@
 -- What the contracts cite.
 pub mod Meanings
+pub mod Shared

@@ -1,6 +1,6 @@
 -- Meaning: what a store means, the bounds it keeps, and what each call answers and makes of it. Assumes nothing.
 use Rattle.std.specs.Prelude.{◌≡◌, ℕ, zero, suc, ◌+◌, ◌<◌, ◌≤◌, Bool, true, false, cond, ◌&&◌, List, [], ◌∷◌, is_some, Some, Result, MatchResult, nat_le}
-use Rattle.heap.specs.Faults.{Report, report}
+use Rattle.heap.specs.Faults.{made_by, Report, report}
 use Rattle.heap.specs.Heaps.{Heap, put, without}
 use Rattle.heap.specs.declared.faults.Fault.{Fault}
 
@@ -13,6 +13,11 @@ pub record Meaning : Type 0 where
 -- the kind that a fault carries, from its number and the arguments of the call, in their order
 abbrev pub Kinds : Type 0
 Kinds = ℕ → List ℕ → ℕ
+
+-- what every call keeps, so that a lender knows what it holds when the store ends: the kinds of the faults, and the ghost name of the lent memory
+pub record Keeps {S : Type 0} (kinds_of : S → Kinds) (home_of : S → ℕ) (old new : S) : Type 0 where
+  pub kinds : kinds_of new ≡ kinds_of old
+  pub home : home_of new ≡ home_of old
 
 abbrev pub is_live : Meaning → ℕ → Bool
 is_live m a = is_some (m.heap a)
@@ -41,7 +46,7 @@ pub record Bounded (m : Meaning) : Type 0 where
 
 -- what a store's fault reports: it belongs to no routine and no row
 abbrev pub refusal : ℕ → ℕ → ℕ → Report
-refusal n p k = record { number = n; place = p; kind = k; routine = 0; row = 0 }
+refusal n p k = made_by k n p
 
 -- the call on the address a was refused since a is not live: 141 at a
 pub record Dead (m : Meaning) (kinds : Kinds) (arguments : List ℕ) (a : ℕ) (f : Fault) (n : Meaning) : Type 0 where

@@ -3,7 +3,7 @@
 
 ghost use Rattle.std.specs.Prelude.{◌≡◌, true, MatchResult};
 ghost use Rattle.heap.specs.Heaps.{put};
-ghost use Rattle.store.specs.Meanings.{with_heap, writable};
+ghost use Rattle.store.specs.Meanings.{Keeps, with_heap, writable};
 ghost use Rattle.walk.specs.Ways.{Linked, steps, Swaps, Unswapped};
 
 use heap::Fault;
@@ -12,8 +12,7 @@ use store::Store;
 // The links of two cells, or the fault of the first of them that is not live.
 fn links<S: Store>(store: &mut S, first: u32, second: u32) -> Result<(u16, u16), Fault>
     ensures answer { MatchResult result (λ p. Linked (S.meaning store.old) first second p.0 p.1 (S.meaning store.new)) (λ f. Unswapped (S.meaning store.old) (S.kinds store.old) first second f (S.meaning store.new)) }
-    ensures kinds { S.kinds store.new ≡ S.kinds store.old }
-    ensures home { S.home store.new ≡ S.home store.old }
+    ensures keeps { Keeps S.kinds S.home store.old store.new }
 {
     let x = store.read(first)?;
     let y = store.read(second)?;
@@ -24,8 +23,7 @@ fn links<S: Store>(store: &mut S, first: u32, second: u32) -> Result<(u16, u16),
 fn relink<S: Store>(store: &mut S, address: u32, link: u16)
     requires { writable (S.meaning store.old) address link ≡ true }
     ensures after { S.meaning store.new ≡ with_heap (S.meaning store.old) (put (S.meaning store.old).heap address link) }
-    ensures kinds { S.kinds store.new ≡ S.kinds store.old }
-    ensures home { S.home store.new ≡ S.home store.old }
+    ensures keeps { Keeps S.kinds S.home store.old store.new }
 {
     let _ = store.write(address, u32::from(link));
 }
@@ -33,8 +31,7 @@ fn relink<S: Store>(store: &mut S, address: u32, link: u16)
 // Two cells change links. Nothing changes if one of them is not live.
 pub fn swap_links<S: Store>(store: &mut S, first: u32, second: u32) -> Result<(), Fault>
     ensures answer { Swaps (S.meaning store.old) (S.kinds store.old) first second result (S.meaning store.new) }
-    ensures kinds { S.kinds store.new ≡ S.kinds store.old }
-    ensures home { S.home store.new ≡ S.home store.old }
+    ensures keeps { Keeps S.kinds S.home store.old store.new }
 {
     let (x, y) = links(store, first, second)?;
     relink(store, first, y);
@@ -46,17 +43,14 @@ pub fn swap_links<S: Store>(store: &mut S, first: u32, second: u32) -> Result<()
 pub fn follow<S: Store>(store: &mut S, from: u32, most: u32) -> u32
     ensures value { result ≡ steps (S.meaning store.old).heap most from }
     ensures same { S.meaning store.new ≡ S.meaning store.old }
-    ensures kinds { S.kinds store.new ≡ S.kinds store.old }
-    ensures home { S.home store.new ≡ S.home store.old }
+    ensures keeps { Keeps S.kinds S.home store.old store.new }
 {
     let mut at = from;
-    let mut count = 0;
-    while count < most {
+    for count in 0..most {
         let Ok(link) = store.read(at) else {
             return count;
         };
         at = u32::from(link);
-        count += 1;
     }
-    count
+    most
 }

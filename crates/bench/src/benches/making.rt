@@ -1,57 +1,25 @@
 // Making a bench, and the test before it.
 ghost use Rattle.std.specs.Prelude.{◌≡◌, length};
 ghost use Rattle.bench.specs.Benches.{lender_of, store_of, words_of};
-ghost use Rattle.bench.specs.Words.{cleared, fitting, size, Tests};
-ghost use Rattle.heap.specs.Faults.{number, report};
+ghost use Rattle.bench.specs.Words.{cleared, Tests};
 ghost use Rattle.heap.specs.Heaps.{Empty};
-ghost use Rattle.store.specs.Meanings.{refusal};
 
 use super::{Bench, DEAD, MOST};
-use heap::{Fault, Problem};
-use store::Store;
-
-// Whether a bench can lie in so many words.
-fn fits(len: usize) -> bool
-    ensures { result ≡ fitting len }
-{
-    1 <= len && len <= MOST
-}
-
-// How many cells so many words make.
-pub fn cells(len: usize) -> usize
-    ensures { result ≡ size len }
-{
-    if len <= MOST { len } else { 0 }
-}
-
-// A fault of a bench.
-pub fn refuse(problem: Problem, place: usize) -> Fault
-    ensures { report result ≡ refusal (number problem) place 1 }
-{
-    Fault {
-        problem,
-        place,
-        kind: <Bench<'_> as Store>::KIND,
-        routine: 0,
-        row: 0,
-    }
-}
+use heap::Fault;
+use store::{Store, shared};
 
 // The test before making: whether the list has a length that a bench can have.
 pub fn check(words: &[u16]) -> Result<(), Fault>
     ensures { Tests (length words.now) result }
 {
-    if !fits(words.len()) {
-        return Err(refuse(Problem::ListLength, words.len()));
-    }
-    Ok(())
+    shared::check::<MOST, u16>(words, <Bench<'_> as Store>::KIND)
 }
 
-// Makes all cells dead, if the words can be a bench.
+// Makes all cells dead, if the words can be a bench. Not in `shared`: at a type parameter `fill` asks that no clone fails.
 fn clear(words: &mut [u16])
     ensures { words.new ≡ cleared words.old }
 {
-    if fits(words.len()) {
+    if shared::fits::<MOST>(words.len()) {
         words.fill(DEAD);
     }
 }
@@ -64,7 +32,7 @@ impl<'a> Bench<'a> {
         ensures lent { lender_of result ≡ words.entry.ghost_name }
     {
         clear(words);
-        let hint = cells(words.len());
+        let hint = shared::usable::<MOST, u16>(words).len();
         Bench { words, hint }
     }
 }

@@ -1,55 +1,42 @@
 // What a ledger does: the answers of a store, and what each call leaves in the records.
-ghost use Rattle.std.specs.Prelude.{◌≡◌, ℕ, ◌+◌, ◌-◌, ◌<◌, ◌≤◌, true, false, length, is_some, IfOk, MatchOption, MatchResult, slice_index_or, slice_set};
-ghost use Rattle.heap.specs.Faults.{number, report};
+ghost use Rattle.std.specs.Prelude.{◌≡◌, ℕ, ◌+◌, ◌-◌, ◌<◌, ◌≤◌, true, false, [], ◌∷◌, length, is_some, IfOk, MatchOption, MatchResult, slice_index_or, slice_set};
 ghost use Rattle.heap.specs.Heaps.{put, without};
 ghost use Rattle.ledger.specs.Bounds.{bounded};
-ghost use Rattle.ledger.specs.Records.{cells, Found, IsCell, IsUnused, ledger_kinds, meant, Mirrors, NextDead, place, size, top_of, unused, usable, used, vacant};
-ghost use Rattle.store.specs.Meanings.{Frees, is_live, live_cells, Reads, refusal, Takes, with_heap, Writes};
+ghost use Rattle.ledger.specs.Ledgers.{kinds_of, lender_of};
+ghost use Rattle.ledger.specs.Records.{AllLive, cells, FirstDead, Found, IsCell, IsUnused, ledger_kinds, meant, Mirrors, NextDead, place, size, top_of, unused, usable, used, vacant};
+ghost use Rattle.store.specs.Meanings.{Dead, Frees, is_live, Keeps, live_cells, Reads, Takes, with_heap, Writes};
 
-use super::making::{cells_in, fits};
-use super::{Ledger, TOP, UNUSED};
+use super::{Ledger, MOST, TOP};
 use crate::records::Record;
 use heap::{Fault, Problem};
-use store::Store;
-
-// A fault of a ledger.
-fn refuse(problem: Problem, place: usize) -> Fault
-    ensures { report result ≡ refusal (number problem) place 2 }
-{
-    Fault {
-        problem,
-        place,
-        kind: <Ledger<'_> as Store>::KIND,
-        routine: 0,
-        row: 0,
-    }
-}
+use store::{Store, shared};
 
 impl Ledger<'_> {
-    // The place of the first record with an address, and the number of usable records if there is none.
-    fn find(&self, address: u32) -> usize
+    // The records that cells can lie in.
+    fn usable(&self) -> &[Record]
+        ensures { result.now ≡ usable self.now.records.now }
+    {
+        shared::usable::<MOST, Record>(self.records)
+    }
+
+    // The place of the first record with an address.
+    fn find(&self, address: u32) -> Option<usize>
         ensures found { Found self.now.records.now address result }
         ensures mirrors { Mirrors self.now.records.now }
     {
-        let n = cells_in(self.records.len());
-        for i in 0..n {
-            if self.records[i].address as u32 == address {
-                return i;
-            }
-        }
-        n
+        self.usable()
+            .iter()
+            .position(|record| address == u32::from(record.address))
     }
 
     // The place of a live cell's record.
-    fn cell(&self, address: u32) -> Option<usize>
+    fn cell(&self, address: u32) -> Result<usize, Fault>
         ensures mirrors { Mirrors self.now.records.now }
-        ensures cell { MatchOption result (is_some (cells (usable self.now.records.now) address) ≡ false) (λ i. IsCell self.now.records.now address i) }
+        ensures cell { MatchResult result (λ i. IsCell self.now.records.now address i) (λ f. Dead (meant self.now.records.now) ledger_kinds (address ∷ []) address f (meant self.now.records.now)) }
     {
-        let i = self.find(address);
-        if address > 0 && i < cells_in(self.records.len()) {
-            Some(i)
-        } else {
-            None
+        match self.find(address) {
+            Some(place) if address > 0 => Ok(place),
+            _ => Err(Fault::of_store(Self::KIND, Problem::NotLive, address as usize)),
         }
     }
 
@@ -57,22 +44,14 @@ impl Ledger<'_> {
     fn first_unused(&self) -> Option<usize>
         ensures { MatchOption result (live_cells (meant self.now.records.now) ≡ size (length self.now.records.now)) (λ i. IsUnused self.now.records.now i) }
     {
-        let i = self.find(0);
-        if i < cells_in(self.records.len()) {
-            Some(i)
-        } else {
-            None
-        }
+        self.find(0)
     }
 
     // Whether this is the address of a live cell.
     fn holds(&self, address: u32) -> bool
         ensures { result ≡ is_some (cells (usable self.now.records.now) address) }
     {
-        match self.cell(address) {
-            Some(_) => true,
-            None => false,
-        }
+        self.cell(address).is_ok()
     }
 
     // How many records are in use.
@@ -81,41 +60,28 @@ impl Ledger<'_> {
         ensures live { result ≡ live_cells (meant self.now.records.now) }
         ensures most { result ≤ size (length self.now.records.now) }
     {
-        let mut n = 0;
-        for i in 0..cells_in(self.records.len()) {
-            if self.records[i].address != 0 {
-                n += 1;
-            }
-        }
-        n
+        self.usable()
+            .iter()
+            .filter(|record| record.address >= 1)
+            .count()
     }
 
-    // The first address from this one on that is not live, and 4,096 if all are.
-    fn dead_from(&self, from: u16) -> u16
+    // The first address from this one on that is not live.
+    fn dead_from(&self, from: u16) -> Option<u16>
         requires { (1 ≤ from) × (from ≤ 4096) }
-        ensures within { (from ≤ result) × (result ≤ 4096) }
-        ensures dead { result ≤ 4095 → is_some (cells (usable self.now.records.now) result) ≡ false }
-        ensures live { (k : ℕ) → from ≤ k → k < result → is_some (cells (usable self.now.records.now) k) ≡ true }
+        ensures { MatchOption result (AllLive self.now.records.now from 4096) (λ a. FirstDead self.now.records.now from a) }
     {
-        let mut a = from;
-        while a <= TOP {
-            if !self.holds(a as u32) {
-                return a;
-            }
-            a += 1;
-        }
-        a
+        (from..TOP + 1).find(|a| !self.holds(u32::from(*a)))
     }
 
     // The first address behind the last one given that is not live.
     fn next_dead(&self) -> u16
         ensures { NextDead self.now.records.now self.now.last result }
     {
-        let a = self.dead_from(self.last + 1);
-        if a <= TOP {
-            return a;
+        match self.dead_from(self.last + 1) {
+            Some(a) => a,
+            None => self.dead_from(1).unwrap(),
         }
-        self.dead_from(1)
     }
 
     // Makes a record that of a cell: its own, or one that is not in use.
@@ -141,7 +107,7 @@ impl Ledger<'_> {
         ensures home { self.new.records.ghost_name ≡ self.old.records.ghost_name }
         ensures last { self.new.last ≡ self.old.last }
     {
-        self.records[i] = UNUSED;
+        self.records[i] = Record::UNUSED;
     }
 }
 
@@ -152,65 +118,53 @@ impl<'a> Store for Ledger<'a> {
 
     ghost bounds = { λ s. bounded s.records.now s.kept };
 
-    ghost kinds = { λ s. ledger_kinds };
+    ghost kinds = { kinds_of };
 
-    ghost home = { λ s. s.records.ghost_name };
+    ghost home = { lender_of };
 
     fn read(&mut self, address: u32) -> Result<u16, Fault>
         ensures answer { Reads (meant self.old.records.now) ledger_kinds address result (meant self.new.records.now) }
-        ensures kinds { ledger_kinds ≡ ledger_kinds }
-        ensures home { self.new.records.ghost_name ≡ self.old.records.ghost_name }
+        ensures keeps { Keeps kinds_of lender_of self.old self.new }
         ensures records { self.new.records.now ≡ self.old.records.now }
         ensures last { self.new.last ≡ self.old.last }
         ensures mirrors { Mirrors self.old.records.now }
     {
-        let Some(i) = self.cell(address) else {
-            return Err(refuse(Problem::NotLive, address as usize));
-        };
+        let i = self.cell(address)?;
         Ok(self.records[i].link)
     }
 
     fn write(&mut self, address: u32, link: u32) -> Result<(), Fault>
         ensures answer { Writes (meant self.old.records.now) ledger_kinds address link result (meant self.new.records.now) }
-        ensures kinds { ledger_kinds ≡ ledger_kinds }
-        ensures home { self.new.records.ghost_name ≡ self.old.records.ghost_name }
+        ensures keeps { Keeps kinds_of lender_of self.old self.new }
         ensures records { MatchResult result (λ _. self.new.records.now ≡ slice_set self.old.records.now (place self.old.records.now address) (record { address = address; link = link })) (λ _. self.new.records.now ≡ self.old.records.now) }
         ensures last { self.new.last ≡ self.old.last }
     {
-        let Some(i) = self.cell(address) else {
-            return Err(refuse(Problem::NotLive, address as usize));
-        };
-        if link > 65534 {
-            return Err(refuse(Problem::LinkRange, link as usize));
-        }
-        self.put(i, address as u16, link as u16);
+        let i = self.cell(address)?;
+        let link = shared::link(link, Self::KIND)?;
+        self.put(i, address as u16, link);
         Ok(())
     }
 
     fn free(&mut self, address: u32) -> Result<(), Fault>
         ensures answer { Frees (meant self.old.records.now) ledger_kinds address result (meant self.new.records.now) }
-        ensures kinds { ledger_kinds ≡ ledger_kinds }
-        ensures home { self.new.records.ghost_name ≡ self.old.records.ghost_name }
+        ensures keeps { Keeps kinds_of lender_of self.old self.new }
         ensures records { MatchResult result (λ _. self.new.records.now ≡ slice_set self.old.records.now (place self.old.records.now address) unused) (λ _. self.new.records.now ≡ self.old.records.now) }
         ensures last { self.new.last ≡ self.old.last }
     {
-        let Some(i) = self.cell(address) else {
-            return Err(refuse(Problem::NotLive, address as usize));
-        };
+        let i = self.cell(address)?;
         self.clear(i);
         Ok(())
     }
 
     fn take(&mut self) -> Result<u16, Fault>
         ensures answer { Takes (meant self.old.records.now) ledger_kinds result (meant self.new.records.now) }
-        ensures kinds { ledger_kinds ≡ ledger_kinds }
-        ensures home { self.new.records.ghost_name ≡ self.old.records.ghost_name }
+        ensures keeps { Keeps kinds_of lender_of self.old self.new }
         ensures next { IfOk result (λ a. NextDead self.old.records.now self.old.last a) }
         ensures records { MatchResult result (λ a. self.new.records.now ≡ slice_set self.old.records.now (place self.old.records.now 0) (record { address = a; link = 0 })) (λ _. self.new.records.now ≡ self.old.records.now) }
         ensures last { MatchResult result (λ a. self.new.last ≡ a) (λ _. self.new.last ≡ self.old.last) }
     {
         let Some(i) = self.first_unused() else {
-            return Err(refuse(Problem::NoCell, 0));
+            return Err(Fault::of_store(Self::KIND, Problem::NoCell, 0));
         };
         let a = self.next_dead();
         self.put(i, a, 0);
@@ -220,32 +174,30 @@ impl<'a> Store for Ledger<'a> {
 
     fn top(&mut self) -> u16
         ensures value { result ≡ top_of (length self.old.records.now) }
-        ensures same { meant self.new.records.now ≡ meant self.old.records.now }
-        ensures kinds { ledger_kinds ≡ ledger_kinds }
-        ensures home { self.new.records.ghost_name ≡ self.old.records.ghost_name }
+        ensures keeps { Keeps kinds_of lender_of self.old self.new }
         ensures records { self.new.records.now ≡ self.old.records.now }
         ensures last { self.new.last ≡ self.old.last }
     {
-        if fits(self.records.len()) { TOP } else { 0 }
+        if shared::fits::<MOST>(self.records.len()) {
+            TOP
+        } else {
+            0
+        }
     }
 
     fn left(&mut self) -> u16
         ensures value { result ≡ size (length self.old.records.now) - live_cells (meant self.old.records.now) }
         ensures unused { result ≡ size (length self.old.records.now) - used (usable self.old.records.now) }
-        ensures same { meant self.new.records.now ≡ meant self.old.records.now }
-        ensures kinds { ledger_kinds ≡ ledger_kinds }
-        ensures home { self.new.records.ghost_name ≡ self.old.records.ghost_name }
+        ensures keeps { Keeps kinds_of lender_of self.old self.new }
         ensures records { self.new.records.now ≡ self.old.records.now }
         ensures last { self.new.last ≡ self.old.last }
     {
-        (cells_in(self.records.len()) - self.count()) as u16
+        (self.usable().len() - self.count()) as u16
     }
 
     fn live(&mut self, address: u32) -> bool
         ensures value { result ≡ is_live (meant self.old.records.now) address }
-        ensures same { meant self.new.records.now ≡ meant self.old.records.now }
-        ensures kinds { ledger_kinds ≡ ledger_kinds }
-        ensures home { self.new.records.ghost_name ≡ self.old.records.ghost_name }
+        ensures keeps { Keeps kinds_of lender_of self.old self.new }
         ensures records { self.new.records.now ≡ self.old.records.now }
         ensures last { self.new.last ≡ self.old.last }
     {

@@ -1,16 +1,16 @@
 // Benches: at capacity 1, full, emptied again, and with addresses and links out of range.
-use super::Answer::{Done, Flag, Number, Refused};
+use super::Answer::{Done, Flag, Number};
 use super::Call::{Free, Left, Live, Read, Take, Top, Write};
-use super::{Step, done, run};
+use super::{Refused, Step, run};
 use bench::Bench;
 
 const THREE_OF_FOUR: [Step; 6] = [
-    (Left, Number(4)),
-    (Take, Number(4)),
-    (Take, Number(3)),
-    (Take, Number(2)),
-    (Left, Number(1)),
-    (Top, Number(4)),
+    (Left, Ok(Number(4))),
+    (Take, Ok(Number(4))),
+    (Take, Ok(Number(3))),
+    (Take, Ok(Number(2))),
+    (Left, Ok(Number(1))),
+    (Top, Ok(Number(4))),
 ];
 
 #[test]
@@ -22,18 +22,18 @@ fn highest_first(rt: HostRuntime) {
 }
 
 const ONE: [Step; 12] = [
-    (Read(1), Refused(141, 1, 1)),
-    (Take, Number(1)),
-    (Take, Refused(143, 0, 1)),
-    (Left, Number(0)),
-    (Read(1), Number(0)),
-    (Write(1, 1), Done),
-    (Read(1), Number(1)),
-    (Free(1), Done),
-    (Free(1), Refused(141, 1, 1)),
-    (Left, Number(1)),
-    (Take, Number(1)),
-    (Read(1), Number(0)),
+    (Read(1), Err(Refused(141, 1, 1))),
+    (Take, Ok(Number(1))),
+    (Take, Err(Refused(143, 0, 1))),
+    (Left, Ok(Number(0))),
+    (Read(1), Ok(Number(0))),
+    (Write(1, 1), Ok(Done)),
+    (Read(1), Ok(Number(1))),
+    (Free(1), Ok(Done)),
+    (Free(1), Err(Refused(141, 1, 1))),
+    (Left, Ok(Number(1))),
+    (Take, Ok(Number(1))),
+    (Read(1), Ok(Number(0))),
 ];
 
 #[test]
@@ -45,20 +45,20 @@ fn one_cell(rt: HostRuntime) {
 }
 
 const AGAIN: [Step; 14] = [
-    (Take, Number(3)),
-    (Take, Number(2)),
-    (Take, Number(1)),
-    (Take, Refused(143, 0, 1)),
-    (Free(2), Done),
-    (Take, Number(2)),
-    (Take, Refused(143, 0, 1)),
-    (Free(1), Done),
-    (Free(3), Done),
-    (Free(2), Done),
-    (Left, Number(3)),
-    (Take, Number(3)),
-    (Take, Number(2)),
-    (Left, Number(1)),
+    (Take, Ok(Number(3))),
+    (Take, Ok(Number(2))),
+    (Take, Ok(Number(1))),
+    (Take, Err(Refused(143, 0, 1))),
+    (Free(2), Ok(Done)),
+    (Take, Ok(Number(2))),
+    (Take, Err(Refused(143, 0, 1))),
+    (Free(1), Ok(Done)),
+    (Free(3), Ok(Done)),
+    (Free(2), Ok(Done)),
+    (Left, Ok(Number(3))),
+    (Take, Ok(Number(3))),
+    (Take, Ok(Number(2))),
+    (Left, Ok(Number(1))),
 ];
 
 // A freed cell is taken again, the highest first, also after every cell was freed.
@@ -71,30 +71,30 @@ fn freed_and_taken(rt: HostRuntime) {
 }
 
 const ADDRESSES: [Step; 13] = [
-    (Take, Number(2)),
-    (Live(2), Flag(true)),
-    (Live(1), Flag(false)),
-    (Live(0), Flag(false)),
-    (Live(3), Flag(false)),
-    (Live(65535), Flag(false)),
-    (Read(0), Refused(141, 0, 1)),
-    (Read(3), Refused(141, 3, 1)),
-    (Read(4294967295), Refused(141, 4294967295, 1)),
-    (Free(0), Refused(141, 0, 1)),
-    (Free(65535), Refused(141, 65535, 1)),
-    (Write(3, 65535), Refused(141, 3, 1)),
-    (Write(65538, 0), Refused(141, 65538, 1)),
+    (Take, Ok(Number(2))),
+    (Live(2), Ok(Flag(true))),
+    (Live(1), Ok(Flag(false))),
+    (Live(0), Ok(Flag(false))),
+    (Live(3), Ok(Flag(false))),
+    (Live(65535), Ok(Flag(false))),
+    (Read(0), Err(Refused(141, 0, 1))),
+    (Read(3), Err(Refused(141, 3, 1))),
+    (Read(4294967295), Err(Refused(141, 4294967295, 1))),
+    (Free(0), Err(Refused(141, 0, 1))),
+    (Free(65535), Err(Refused(141, 65535, 1))),
+    (Write(3, 65535), Err(Refused(141, 3, 1))),
+    (Write(65538, 0), Err(Refused(141, 65538, 1))),
 ];
 
 const LINKS: [Step; 8] = [
-    (Write(2, 65535), Refused(142, 65535, 1)),
-    (Write(2, 65536), Refused(142, 65536, 1)),
-    (Write(2, 4294967295), Refused(142, 4294967295, 1)),
-    (Read(2), Number(0)),
-    (Write(2, 65534), Done),
-    (Read(2), Number(65534)),
-    (Write(2, 0), Done),
-    (Write(2, 3), Done),
+    (Write(2, 65535), Err(Refused(142, 65535, 1))),
+    (Write(2, 65536), Err(Refused(142, 65536, 1))),
+    (Write(2, 4294967295), Err(Refused(142, 4294967295, 1))),
+    (Read(2), Ok(Number(0))),
+    (Write(2, 65534), Ok(Done)),
+    (Read(2), Ok(Number(65534))),
+    (Write(2, 0), Ok(Done)),
+    (Write(2, 3), Ok(Done)),
 ];
 
 // Nil, the address behind top and 65,535 are never live; a link may be above top, but not above 65,534.
@@ -108,13 +108,13 @@ fn out_of_range(rt: HostRuntime) {
 }
 
 const NOTHING: [Step; 7] = [
-    (Top, Number(0)),
-    (Left, Number(0)),
-    (Live(1), Flag(false)),
-    (Take, Refused(143, 0, 1)),
-    (Read(1), Refused(141, 1, 1)),
-    (Write(1, 65535), Refused(141, 1, 1)),
-    (Free(1), Refused(141, 1, 1)),
+    (Top, Ok(Number(0))),
+    (Left, Ok(Number(0))),
+    (Live(1), Ok(Flag(false))),
+    (Take, Err(Refused(143, 0, 1))),
+    (Read(1), Err(Refused(141, 1, 1))),
+    (Write(1, 65535), Err(Refused(141, 1, 1))),
+    (Free(1), Err(Refused(141, 1, 1))),
 ];
 
 // Over a list of a wrong length nothing can be taken, and nothing is written.
@@ -129,8 +129,17 @@ fn too_long(rt: HostRuntime) {
 #[test]
 fn lengths(rt: HostRuntime) {
     let words = [9; 4096];
-    assert_eq!(rt; done(bench::check(&words)), Refused(144, 4096, 1));
-    assert_eq!(rt; done(bench::check(&words[0..4095])), Done);
-    assert_eq!(rt; done(bench::check(&words[0..1])), Done);
-    assert_eq!(rt; done(bench::check(&words[0..0])), Refused(144, 0, 1));
+    assert_eq!(rt;
+        bench::check(&words).map_err(Refused::from),
+        Err(Refused(144, 4096, 1))
+    );
+    assert_eq!(rt;
+        bench::check(&words[0..4095]).map_err(Refused::from),
+        Ok(())
+    );
+    assert_eq!(rt; bench::check(&words[0..1]).map_err(Refused::from), Ok(()));
+    assert_eq!(rt;
+        bench::check(&words[0..0]).map_err(Refused::from),
+        Err(Refused(144, 0, 1))
+    );
 }

@@ -1,8 +1,7 @@
--- The count is that of the cells so far.
-use Rattle.std.proofs.Common.{◌≡◌, ◌≤◌}
-use Rattle.bench.specs.Words.{cells}
-use Rattle.store.specs.Meanings.{live_below}
+-- The count is that of the links so far.
+use Rattle.std.proofs.Common.{◌≡◌, ◌≤◌, take}
+use Rattle.bench.proofs.WordsChange.{links}
 use Rattle.bench.proofs.benches.Bench.count.Given as goal
 
-abbrev pub invariant-loop-i : goal.invariant-loop-i
-invariant-loop-i l = (l.n ≤ l.i) × (l.n ≡ live_below (cells l.self.words.now) l.i)
+abbrev pub invariant-loop-word : goal.invariant-loop-word
+invariant-loop-word l = (l.n ≤ l.word-index) × (l.n ≡ links (take l.word-index l.word-items))

@@ -4,16 +4,10 @@ use Rattle.ledger.proofs.Usable.{kept_without, meant-without}
 use Rattle.ledger.proofs.ledgers.Ledger.clear.Goals as goal
 use Rattle.ledger.specs.Records.{unused}
 
-pub invariant_of-self : goal.invariant_of-self
-invariant_of-self c =
-    record { kept = kept_without c.args.self.now.records.now c.args.i 0 c.args.self.now.kept c.requires; low = c.args.self.now.low; high = c.args.self.now.high }
+pub invariant_of-self-clause-kept : goal.invariant_of-self-clause-kept
+invariant_of-self-clause-kept c = kept_without c.args.self.now.records.now c.args.i 0 c.args.self.now.kept c.requires
 
-pub returns : goal.returns
-returns c =
+pub returns-clause-after : goal.returns-clause-after
+returns-clause-after c =
     let rs = c.args.self.now.records.now in
-    record {
-      after = meant-without rs c.args.i (get_or rs c.args.i unused).address c.args.self.now.kept c.requires refl;
-      records = refl;
-      home = refl;
-      last = refl;
-    }
+    meant-without rs c.args.i (get_or rs c.args.i unused).address c.args.self.now.kept c.requires refl

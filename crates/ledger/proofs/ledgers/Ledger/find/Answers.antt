@@ -1,20 +1,16 @@
--- The search ends at the place of the address, or at the end.
-use Rattle.std.proofs.Common.{arith}
-use Rattle.ledger.proofs.Usable.{find_here, find_none, find_past, found, mirrors}
+-- The search is for the first record with the address.
+use Rattle.std.proofs.Common.{eqb, rules, tests}
+use Rattle.std.proofs.lemmas.Iterator.{YieldsList-from_slice}
+use Rattle.std.proofs.lemmas.Iterator.Search.{position_from_yields_List}
+use Rattle.ledger.proofs.Usable.{found, mirrors}
 use Rattle.ledger.proofs.ledgers.Ledger.find.Goals as goal
-use Rattle.ledger.specs.Records.{unused}
+use Rattle.ledger.specs.Records.{usable}
 
-pub returns-then-self-i : goal.returns-then-self-i
-returns-then-self-i c =
+pub returns-clause-found : goal.returns-clause-found
+returns-clause-found c =
     let rs = c.args.self.now.records.now in
-    let fine = c.args.self.now.kept in
-    record { found = found rs c.args.address c.loop-i.i fine (find_here rs c.loop-i.i c.args.address unused c.loop-i.invariant (omega arith) c.if-self-i.true); mirrors = mirrors rs fine }
+    let first = position_from_yields_List (λ r. eqb c.args.address r.address) _ _ c.position.result c.position.ensures.ran (YieldsList-from_slice (usable rs) cc) (λ x b q k. search (rules, tests)) in
+    rw first (found rs c.args.address c.args.self.now.kept)
 
-pub loop-i-preserved : goal.loop-i-preserved
-loop-i-preserved c = find_past c.args.self.now.records.now c.loop-i.i c.args.address unused c.loop-i.invariant (omega arith) c.if-self-i.false
-
-pub returns : goal.returns
-returns c =
-    let rs = c.args.self.now.records.now in
-    let fine = c.args.self.now.kept in
-    record { found = found rs c.args.address c.cells_in-n.result fine (find_none rs c.cells_in-n.result c.args.address c.cells_in-n.ensures (omega arith)); mirrors = mirrors rs fine }
+pub returns-clause-mirrors : goal.returns-clause-mirrors
+returns-clause-mirrors c = mirrors c.args.self.now.records.now c.args.self.now.kept
