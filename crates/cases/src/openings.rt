@@ -201,6 +201,7 @@ impl<'a> Opening<'a> {
     }
 
     // Lays the cases behind a case on the pile; the step is that of its row.
+    // By `match`: how far an opening is done lies in lent memory, where no function can lie.
     pub fn expand(&self, pile: &mut Pile<Case>, case: Case, step: Step)
         requires work { Workable self.now.names.now self.now.atoms.now case }
         requires grows { Grows self.now.names.now step case.stage case.nodes }

@@ -7,7 +7,7 @@ mod methods;
 #[derive(Clone, Copy, PartialEq, Eq, Debug)]
 pub struct Full;
 
-// The first `len` of the lent slots, the last of them on top.
+// The first `len` of the lent slots, the last of them on top. A length beside lent memory and no `Vec`, since nothing here allocates.
 #[derive(Drop)]
 pub struct Pile<'a, T> {
     slots: &'a mut [T],

@@ -145,7 +145,7 @@ impl Draft {
         self.atoms += 1;
     }
 
-    // What a line adds.
+    // What a line adds. By `match` and no table of functions, since each role changes another part of the draft.
     fn add(&mut self, role: Role, kind: Kind, columns: &Six<u8>)
         requires due { due (progress_in self.old) role ≡ true }
         requires room { RoomFor (progress_in self.old) role columns.now }
