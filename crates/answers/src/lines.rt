@@ -11,7 +11,8 @@ use layout::column;
 impl Shown {
     // The bytes to be printed.
     pub fn text(&self) -> &[u8]
-        ensures { result.now ≡ self.now }
+        ensures bytes { result.now ≡ self.now }
+        ensures few { length result.now ≤ 70 }
     {
         self.bytes.as_slice()
     }

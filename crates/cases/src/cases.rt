@@ -23,7 +23,7 @@ pub enum Stage {
     Running,
 }
 
-// A shape at a row: the node of each name, the edge of each node. Arrays of fixed size, and nodes as indexes: nothing is allocated.
+// A shape at a row: the node of each name, the edge of each node. Arrays and no `ArrayVec`, since a case is copied in and out of lent slots; nodes as indexes, since nothing is allocated.
 // That the shape is sound is said where it is needed, and not kept here: names and edges are set one by one, and it does not hold in between. Nor that its row is at most 41: it is the search that knows that no row behind comes up.
 // That a name is below 9 is said at each call too: names are the bytes of heap's atoms and sheet's rows, and a type of its own would be made and undone around each.
 #[derive(Clone, Copy)]
@@ -86,14 +86,14 @@ impl Case {
         matches!(self.stage, Stage::Running)
     }
 
-    // The case with a name at another node.
+    // The case with a name at another node. This method and those like it say too what they leave as it was: a caller's proof has it from nowhere else.
     pub(crate) fn with_name(mut self, x: Name, node: Node) -> Case
         requires { x < 9 }
         ensures shape { shape_of result ≡ set_name (shape_of self) x node }
         ensures row { result.row ≡ self.row }
         ensures stage { result.stage ≡ self.stage }
     {
-        self.names[x as usize] = node;
+        self.names[usize::from(x)] = node;
         self
     }
 
@@ -104,7 +104,7 @@ impl Case {
         ensures row { result.row ≡ self.row }
         ensures stage { result.stage ≡ self.stage }
     {
-        self.edges[i as usize] = edge;
+        self.edges[usize::from(i)] = edge;
         self
     }
 
@@ -115,7 +115,7 @@ impl Case {
         ensures row { result.row ≡ self.row }
         ensures stage { result.stage ≡ self.stage }
     {
-        self.edges[self.nodes as usize] = edge;
+        self.edges[usize::from(self.nodes)] = edge;
         self.nodes += 1;
         self
     }

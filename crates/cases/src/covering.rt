@@ -7,7 +7,7 @@ use crate::cases::{Case, NODES};
 use heap::Atom;
 use pieces::{Edge, Node};
 
-// A case, and its edges that are left while the atoms of a list take theirs.
+// A case, and its edges that are left while the atoms of a list take theirs: a copy of the case's array, and as long.
 #[derive(Drop)]
 struct Covering<'a> {
     case: &'a Case,
@@ -36,11 +36,11 @@ impl Covering<'_> {
             if i == to {
                 return true;
             }
-            let edge = self.edges[i as usize];
-            match edge {
+            let at = usize::from(i);
+            match self.edges[at] {
                 Edge::Dead => return false,
                 Edge::Cell(next) | Edge::Segment(next) => {
-                    self.edges[i as usize] = Edge::Dead;
+                    self.edges[at] = Edge::Dead;
                     i = next;
                 }
             }
@@ -55,8 +55,9 @@ impl Covering<'_> {
         ensures taken { edges_of self.new.edges ≡ put (edges_of self.old.edges) i Dead }
         ensures case { self.new.case ≡ self.old.case }
     {
-        let edge = self.edges[i as usize];
-        self.edges[i as usize] = Edge::Dead;
+        let at = usize::from(i);
+        let edge = self.edges[at];
+        self.edges[at] = Edge::Dead;
         edge == Edge::Cell(to)
     }
 
@@ -79,7 +80,7 @@ impl Covering<'_> {
     fn is_done(&self) -> bool
         ensures { result ≡ all_dead self.now.case.now.nodes (edges_of self.now.edges) }
     {
-        self.edges[..self.case.nodes as usize]
+        self.edges[..usize::from(self.case.nodes)]
             .iter()
             .all(|edge| *edge == Edge::Dead)
     }
@@ -101,6 +102,7 @@ impl Case {
             case: self,
             edges: self.edges,
         };
+        // a `for`: a closure that changes what it captures would tell the proof nothing of what `all` leaves
         for atom in atoms {
             if !covering.takes(atom) {
                 return false;

@@ -36,7 +36,7 @@ impl Case {
         requires right { y < 9 }
         ensures { result ≡ ((shape_of self.now).name x == (shape_of self.now).name y) }
     {
-        self.names[x as usize] == self.names[y as usize]
+        self.node(x) == self.node(y)
     }
 
     // Whether an atom is an Eq or a Neq whose names are both placed, and is false; `later` are the names that are not placed yet.
@@ -137,7 +137,7 @@ fn link(pile: &mut Pile<Case>, case: Case, i: Node, j: Node, next: u8)
 }
 
 impl<'a> Opening<'a> {
-    // What a piece opens with.
+    // What a piece opens with. It asks that names and atoms are small, which whoever reads a sheet knows of it.
     pub fn new(names: &'a [Name], atoms: &'a [Atom]) -> Opening<'a>
         requires names { SmallNames names.now }
         requires atoms { SmallAtoms atoms.now }
@@ -153,7 +153,7 @@ impl<'a> Opening<'a> {
         requires { k < length self.now.names.now }
         ensures { items_of self.now.names.now self.now.atoms.now result ≡ placed_at self.now.names.now self.now.atoms.now k case.row (shape_of case) j }
     {
-        let at = k as usize;
+        let at = usize::from(k);
         let placed = case
             .with_name(self.names[at], j)
             .at_stage(Stage::Placing(k + 1));
@@ -182,7 +182,7 @@ impl<'a> Opening<'a> {
         ensures piled { LaidAs self.now.names.now self.now.atoms.now (afters_by Step.Close (stage_in self.now.names.now self.now.atoms.now (Stage.Placing k)) case.row (shape_of case)) (entries pile.old) (entries pile.new) }
         ensures room { capacity pile.new ≡ capacity pile.old }
     {
-        if (k as usize) < self.names.len() {
+        if usize::from(k) < self.names.len() {
             self.place(pile, case, k);
         } else {
             put(pile, case.at_stage(Stage::Adding(0)));
@@ -194,7 +194,7 @@ impl<'a> Opening<'a> {
         requires { SoundShape (shape_of case) }
         ensures { items_of self.now.names.now self.now.atoms.now result ≡ afters_by Step.Close (stage_in self.now.names.now self.now.atoms.now (Stage.Adding k)) case.row (shape_of case) }
     {
-        match self.atoms.get(k as usize) {
+        match self.atoms.get(usize::from(k)) {
             Some(atom) => case.added(atom, k + 1),
             None => Some(case.at_stage(Stage::Running)),
         }

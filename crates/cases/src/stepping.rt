@@ -22,7 +22,7 @@ impl Case {
         requires { x < 9 }
         ensures { result ≡ (shape_of self.now).name x }
     {
-        self.names[x as usize]
+        self.names[usize::from(x)]
     }
 
     // Whether the node of a name is dead.
@@ -31,7 +31,7 @@ impl Case {
         requires node { (shape_of self.now).name x < 17 }
         ensures { result ≡ is_dead ((shape_of self.now).edge ((shape_of self.now).name x)) }
     {
-        self.edges[self.node(x) as usize] == Edge::Dead
+        self.edges[usize::from(self.node(x))] == Edge::Dead
     }
 
     // Whether the step touches a cell that is not live.
@@ -48,7 +48,7 @@ impl Case {
     }
 }
 
-// Where an edge leads; nil, a node like any other, where it is dead, as for no row that loads.
+// Where an edge leads. Nil where it is dead and no Option: no row loads from a dead cell, and an Option would have to be opened again where it cannot be none.
 fn aim(edge: Edge) -> Node
     ensures { result ≡ aim_of edge }
 {
@@ -88,7 +88,7 @@ impl Case {
         ensures row { result.row ≡ suc self.row }
         ensures stage { result.stage ≡ self.stage }
     {
-        let edge = self.edges[self.node(cell) as usize];
+        let edge = self.edges[usize::from(self.node(cell))];
         self.with_name(into, aim(edge)).next_row()
     }
 
@@ -153,7 +153,7 @@ fn touch<F: Fn(Case) -> Case>(pile: &mut Pile<Case>, case: Case, x: Name, act: F
     ensures room { capacity pile.new ≡ capacity pile.old }
 {
     let i = case.node(x);
-    let edge = case.edges[i as usize];
+    let edge = case.edges[usize::from(i)];
     match edge {
         Edge::Dead => {}
         Edge::Cell(_) => put(pile, act(case)),
@@ -170,7 +170,7 @@ impl Case {
         requires { j < 17 }
         ensures { result ≡ not (j == 0 || not (is_dead ((shape_of self.now).edge j))) }
     {
-        j != 0 && self.edges[j as usize] == Edge::Dead
+        j != 0 && self.edges[usize::from(j)] == Edge::Dead
     }
 
     // The name at a new cell at the node, if one may be there, its link nil; the row is then the next.
@@ -211,7 +211,7 @@ fn allocate(pile: &mut Pile<Case>, case: Case, x: Name)
     put(pile, case.new_apart(x));
 }
 
-// One row done: the cases behind a case, laid on the pile.
+// One row done: the cases behind a case, laid on the pile. By `match`: a step is data, that of a row that was read.
 pub(crate) fn advance(pile: &mut Pile<Case>, case: Case, step: Step)
     requires ready { Ready case }
     requires grows { weighs step ≡ true → case.nodes < 17 }
@@ -228,7 +228,7 @@ pub(crate) fn advance(pile: &mut Pile<Case>, case: Case, step: Step)
         Step::New { into } => allocate(pile, case, into),
         Step::Jump { to } => put(pile, case.at_row(to)),
         Step::Branch { left, right, to } => {
-            if case.node(left) == case.node(right) {
+            if case.are_equal(left, right) {
                 put(pile, case.at_row(to));
             } else {
                 put(pile, case.next_row());

@@ -1,7 +1,7 @@
 // The four atoms of an assertion.
 ghost use Rattle.std.specs.Prelude.{◌≡◌};
 
-// A name of a sheet: 0 is nil, 1 to 6 are variables, 7 and 8 are ghosts.
+// A name of a sheet: 0 is nil, 1 to 6 are variables, 7 and 8 are ghosts. A number and no enum: it is what the sheet's text has, and an index of values.
 pub type Name = u8;
 
 // One statement about the values of two names, or about a part of the heap between them.

@@ -34,7 +34,7 @@ pub enum Problem {
 }
 
 // A refusal: why, at which place, and, where they apply, the kind of the store, the routine and the row; those that do not are 0.
-// No Option for them: a refusal is reported and printed as numbers, and in those 0 says that one does not apply.
+// 0 and no Option where one does not apply: a fault means five numbers, and who runs a routine adds its number and row to a store's fault.
 #[derive(Clone, Copy, PartialEq, Eq, Debug)]
 pub struct Fault {
     pub problem: Problem,

@@ -1,11 +1,17 @@
 -- A line holds numbers exactly if it is how those numbers are written.
 use Rattle.std.proofs.Common.{◌≡◌, ℕ, ◌+◌, ◌<◌, Bool, true, false, cond, eqb, List, [], ◌∷◌, ◌++◌, length, get_or, take, drop, Some, None, Option, sym, refl, ap, ◌∙◌, subst, arith}
+use Rattle.std.specs.Bool.{then_some}
 use Rattle.std.proofs.lemmas.List.{take_at, drop_at, take-append-drop, drop-drop, drop_all, drop_more, get_or-drop}
-use Rattle.std.proofs.lemmas.Bool.{cond-true, cond-false, eqb-true, eq-eqb, ne_eqb}
+use Rattle.std.proofs.lemmas.Bool.{cond-true, eqb-true, eq-eqb}
 use Rattle.layout.specs.Columns.{column_of, number_in}
 use Rattle.layout.specs.Lines.{written, given, column_at, numbers_in, Short}
 use Rattle.layout.specs.declared.lines.Numbers.{Numbers}
 use Rattle.layout.proofs.ColumnsExact.{number_of_column, column_of_number, length-column, some_same, none_some}
+
+-- what stands if a test is passed
+pub some_if : {A : Type 0} (b : Bool) (x : A) → then_some b x ≡ cond b (Some x) None
+some_if true x = refl
+some_if false x = refl
 
 -- seven columns that are all there
 all_given : {o p q r s t u : Option ℕ} (k a b c d e f : ℕ) (F : ℕ → ℕ → ℕ → ℕ → ℕ → ℕ → ℕ → Option Numbers)
@@ -29,16 +35,13 @@ pub record Columned (bs : List ℕ) (l : Numbers) : Type 0 where
   pub fifth : column_at bs 20 ≡ Some l.operands.fifth
   pub sixth : column_at bs 24 ≡ Some l.operands.sixth
 
-columned : (bs : List ℕ) (l : Numbers) → Columned bs l → numbers_in bs ≡ cond (eqb (get_or bs 28 0) 10) (Some l) None
+pub columned : (bs : List ℕ) (l : Numbers) → Columned bs l → numbers_in bs ≡ cond (eqb (get_or bs 28 0) 10) (Some l) None
 columned bs l c =
     all_given l.kind l.operands.first l.operands.second l.operands.third l.operands.fourth l.operands.fifth l.operands.sixth
     (ended bs) c.kind c.first c.second c.third c.fourth c.fifth c.sixth
 
 pub numbers_there : (bs : List ℕ) (l : Numbers) → Columned bs l → get_or bs 28 0 ≡ 10 → numbers_in bs ≡ Some l
 numbers_there bs l c e = columned bs l c ∙ cond-true (eqb (get_or bs 28 0) 10) (Some l) None (eq-eqb (get_or bs 28 0) 10 e)
-
-pub numbers_absent : (bs : List ℕ) (l : Numbers) → Columned bs l → (get_or bs 28 0 ≡ 10 → ⊥) → None ≡ numbers_in bs
-numbers_absent bs l c ne = sym (columned bs l c ∙ cond-false (eqb (get_or bs 28 0) 10) (Some l) None (ne_eqb (get_or bs 28 0) 10 ne))
 
 -- one column more, where the bytes behind i begin with it
 column_more : (bs : List ℕ) (i n : ℕ) (rest : List ℕ) → n < 10000 → drop i bs ≡ column_of n ++ rest → (column_at bs i ≡ Some n) × (drop (i + 4) bs ≡ rest)

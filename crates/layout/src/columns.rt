@@ -8,7 +8,7 @@ fn digit(n: u16) -> u8
     (n % 10) as u8 + b'0'
 }
 
-// How a number is written; one of more than four digits is shown as four stars.
+// How a number is written; one of more than four digits is shown as four stars. By hand and no `{:>4}`: nothing here allocates, and a column is bytes.
 pub fn column(n: u16) -> [u8; 4]
     ensures { result ≡ column_of n }
 {
@@ -28,7 +28,7 @@ pub fn column(n: u16) -> [u8; 4]
 fn digit_value(byte: u8) -> u32
     ensures { result ≡ byte - 48 }
 {
-    byte.saturating_sub(b'0') as u32
+    u32::from(byte.saturating_sub(b'0'))
 }
 
 // The value of four digits, a space counting as 0.
@@ -42,7 +42,7 @@ fn value(word: &[u8]) -> u32
         + digit_value(word[3])
 }
 
-// The number that a column holds: the one that is written as these bytes.
+// The number that a column holds: the one that is written as these bytes. The word is a slice: an array would come from `as_chunks`, among whose seven the proof would have to find it again.
 pub(crate) fn number(word: &[u8]) -> Option<u16>
     requires { length word.now ≡ 4 }
     ensures { result ≡ number_in word.now }
@@ -52,9 +52,5 @@ pub(crate) fn number(word: &[u8]) -> Option<u16>
         return None;
     }
     let written = column(n as u16);
-    if word == written.as_slice() {
-        Some(n as u16)
-    } else {
-        None
-    }
+    (word == written.as_slice()).then_some(n as u16)
 }

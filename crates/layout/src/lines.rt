@@ -48,19 +48,13 @@ pub(crate) fn parse(bytes: &[u8; LINE]) -> Option<Numbers>
     let fourth = number(&bytes[16..20])?;
     let fifth = number(&bytes[20..24])?;
     let sixth = number(&bytes[24..28])?;
-    if bytes[28] == 10 {
-        Some(Numbers {
-            kind,
-            operands: Six {
-                first,
-                second,
-                third,
-                fourth,
-                fifth,
-                sixth,
-            },
-        })
-    } else {
-        None
-    }
+    let operands = Six {
+        first,
+        second,
+        third,
+        fourth,
+        fifth,
+        sixth,
+    };
+    (bytes[28] == b'\n').then_some(Numbers { kind, operands })
 }

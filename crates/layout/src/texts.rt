@@ -1,5 +1,5 @@
 // The lines of a whole text.
-ghost use Rattle.std.specs.Prelude.{◌≡◌, Ok, Err, MatchResult};
+ghost use Rattle.std.specs.Prelude.{◌≡◌, ◌≤◌, length, Ok, Err, MatchResult};
 ghost use Rattle.heap.specs.Faults.{report};
 ghost use Rattle.layout.specs.Laws.{TextOf, Refused};
 ghost use Rattle.layout.specs.Texts.{lines_of};
@@ -12,7 +12,8 @@ use heap::{Fault, Problem};
 impl Scanned {
     // The numbers of each line, in their order.
     pub fn lines(&self) -> &[Numbers]
-        ensures { result.now ≡ self.now }
+        ensures lines { result.now ≡ self.now }
+        ensures few { length result.now ≤ 123 }
     {
         self.lines.as_slice()
     }
@@ -29,10 +30,7 @@ pub fn scan(text: &[u8]) -> Result<Scanned, Fault>
     let (whole, _) = text.as_chunks::<LINE>();
     let mut lines = ArrayVec::new();
     for (k, bytes) in whole.iter().enumerate() {
-        let Some(numbers) = parse(bytes) else {
-            return Err(Fault::at(Problem::Layout, k + 1));
-        };
-        lines.push(numbers);
+        lines.push(parse(bytes).ok_or(Fault::at(Problem::Layout, k + 1))?);
     }
     Ok(Scanned { lines })
 }

@@ -8,7 +8,7 @@ ghost use Rattle.sheet.specs.ModelReading.{checked_by, progress_in, RoomFor, row
 use crate::building::{atom_for, row_for};
 use crate::drafts::{Draft, Open, Stage};
 use crate::kinds::{Entry, Kind, Role, Scope, entry_for, operands};
-use crate::rows::ROWS;
+use crate::rows::{ATOMS, LIST, ROWS};
 use crate::sheets::{Body, Head};
 use heap::{Atom, Problem};
 use layout::{Numbers, Six};
@@ -109,8 +109,8 @@ impl Draft {
         ensures { result ≡ overfull (progress_in self.now) role }
     {
         match (role, self.open()) {
-            (Role::Atom, Some(open)) => open.count >= 8 || self.atoms >= 80,
-            (Role::Atom, None) => self.atoms >= 80,
+            (Role::Atom, Some(open)) => open.count >= LIST || self.atoms >= ATOMS,
+            (Role::Atom, None) => self.atoms >= ATOMS,
             _ => false,
         }
     }

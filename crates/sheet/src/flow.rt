@@ -66,10 +66,8 @@ impl Body {
     fn is_cut_at(&self, r: usize) -> bool
         ensures { result ≡ is_cut (row_at (rows_in self.now) r) }
     {
-        match self.rows.as_slice().get(r.saturating_sub(1)) {
-            Some(row) => row.is_cut(),
-            None => false,
-        }
+        let row = self.rows.as_slice().get(r.saturating_sub(1));
+        row.is_some_and(Row::is_cut)
     }
 
     // Whether row r is neither later than row i nor a cut.

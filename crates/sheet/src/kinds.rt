@@ -94,28 +94,18 @@ const UNUSED: Six<Class> = Six {
 const ATOM: Six<Class> = Six {
     first: Class::Named,
     second: Class::Named,
-    third: Class::Unused,
-    fourth: Class::Unused,
-    fifth: Class::Unused,
-    sixth: Class::Unused,
+    ..UNUSED
 };
 
 const VARIABLE: Six<Class> = Six {
     first: Class::Variable,
-    second: Class::Unused,
-    third: Class::Unused,
-    fourth: Class::Unused,
-    fifth: Class::Unused,
-    sixth: Class::Unused,
+    ..UNUSED
 };
 
 const VARIABLE_VALUE: Six<Class> = Six {
     first: Class::Variable,
     second: Class::Value,
-    third: Class::Unused,
-    fourth: Class::Unused,
-    fifth: Class::Unused,
-    sixth: Class::Unused,
+    ..UNUSED
 };
 
 // Every kind of line.
@@ -130,7 +120,7 @@ pub const TABLE: [Entry; 17] = [
             third: Class::ArgumentCount,
             fourth: Class::GhostCount,
             fifth: Class::RowCount,
-            sixth: Class::Unused,
+            ..UNUSED
         },
         weight: 0,
     },
@@ -190,10 +180,7 @@ pub const TABLE: [Entry; 17] = [
         classes: Six {
             first: Class::Variable,
             second: Class::Variable,
-            third: Class::Unused,
-            fourth: Class::Unused,
-            fifth: Class::Unused,
-            sixth: Class::Unused,
+            ..UNUSED
         },
         weight: 1,
     },
@@ -224,11 +211,7 @@ pub const TABLE: [Entry; 17] = [
         role: Role::Row,
         classes: Six {
             first: Class::Target,
-            second: Class::Unused,
-            third: Class::Unused,
-            fourth: Class::Unused,
-            fifth: Class::Unused,
-            sixth: Class::Unused,
+            ..UNUSED
         },
         weight: 0,
     },
@@ -240,9 +223,7 @@ pub const TABLE: [Entry; 17] = [
             first: Class::Value,
             second: Class::Value,
             third: Class::Target,
-            fourth: Class::Unused,
-            fifth: Class::Unused,
-            sixth: Class::Unused,
+            ..UNUSED
         },
         weight: 0,
     },

@@ -56,14 +56,16 @@ impl Sheet {
 
     // What holds where the routine begins.
     pub fn before(&self) -> &AtomList
-        ensures { result.now ≡ laid_list self.now.before }
+        ensures before { result.now ≡ laid_list self.now.before }
+        ensures formed { WellFormed self.now }
     {
         &self.body.before
     }
 
     // What holds where the routine ends.
     pub fn after(&self) -> &AtomList
-        ensures { result.now ≡ laid_list self.now.after }
+        ensures after { result.now ≡ laid_list self.now.after }
+        ensures formed { WellFormed self.now }
     {
         &self.body.after
     }

@@ -10,6 +10,9 @@ pub const LIST: usize = 8;
 // How many rows a sheet has at most.
 pub const ROWS: usize = 40;
 
+// How many atoms a sheet has at most.
+pub const ATOMS: u8 = 80;
+
 // The atoms of one assertion.
 pub type AtomList = ArrayVec<Atom, LIST>;
 

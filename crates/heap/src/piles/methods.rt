@@ -1,4 +1,4 @@
-// What a pile does. Each contract gives its entries, the top first, and says that it keeps the memory that was lent.
+// What a pile does. Each contract gives its entries, the top first, and says that it keeps the memory that was lent: its lender knows no more of it when the pile ends.
 ghost use Rattle.std.specs.Prelude.{◌≡◌, [], MatchOption, MatchResult};
 ghost use Rattle.heap.specs.Piles.{capacity, entries, Popped, Pushed, Refused, Spent};
 

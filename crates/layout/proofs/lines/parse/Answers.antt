@@ -1,11 +1,13 @@
--- Seven columns without byte 10 behind them are no line.
-use Rattle.std.proofs.Common.{rules}
-use Rattle.layout.proofs.LinesExact.{numbers_absent}
+-- Seven columns, and byte 10 behind them or not.
+use Rattle.std.proofs.Common.{sym, ◌∙◌, rules}
+use Rattle.layout.proofs.LinesExact.{columned, some_if}
 use Rattle.layout.proofs.lines.parse.Goals as goal
 
-pub returns-else-bytes-eq10 : goal.returns-else-bytes-eq10
-returns-else-bytes-eq10 c =
-    numbers_absent c.args.bytes.now
+pub returns : goal.returns
+returns c =
+    c.then_some.ensures
+    ∙ some_if _ _
+    ∙ sym (columned c.args.bytes.now
     (record {
       kind = c.in_ok-kind.kind;
       operands = record {
@@ -25,5 +27,4 @@ returns-else-bytes-eq10 c =
       fourth = search rules;
       fifth = search rules;
       sixth = search rules;
-    })
-    (search rules)
+    }))

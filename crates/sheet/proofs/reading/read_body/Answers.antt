@@ -14,18 +14,18 @@ pub returns-in_err-draft : goal.returns-in_err-draft
 returns-in_err-draft c =
     let p = err_from_is_err_and c.from_residual-in_err-draft.result c.from_residual-in_err-draft.ensures.1 in
     let ls = c.lines-lines.result.now in
-    let h = c.in_ok-scanned.ensures.defined ∙ sym (ap Ok c.lines-lines.ensures) in
+    let h = c.in_ok-scanned.ensures.defined ∙ sym (ap Ok c.lines-lines.ensures.lines) in
     rw (p.1, p.2) (refused_line c.args.text.now ls _ h c.in_err-draft.ensures)
 
 pub returns-in_err-finish : goal.returns-in_err-finish
 returns-in_err-finish c =
     let p = err_from_is_err_and c.from_residual-in_err-finish.result c.from_residual-in_err-finish.ensures.1 in
     let ls = c.lines-lines.result.now in
-    let h = c.in_ok-scanned.ensures.defined ∙ sym (ap Ok c.lines-lines.ensures) in
+    let h = c.in_ok-scanned.ensures.defined ∙ sym (ap Ok c.lines-lines.ensures.lines) in
     rw (p.1, p.2) (decided c.args.text.now ls (progress_in c.in_ok-draft.draft) h c.in_ok-draft.ensures ∙ c.in_err-finish.ensures)
 
 pub returns : goal.returns
 returns c =
     let ls = c.lines-lines.result.now in
-    let h = c.in_ok-scanned.ensures.defined ∙ sym (ap Ok c.lines-lines.ensures) in
+    let h = c.in_ok-scanned.ensures.defined ∙ sym (ap Ok c.lines-lines.ensures.lines) in
     decided c.args.text.now ls (progress_in c.in_ok-draft.draft) h c.in_ok-draft.ensures ∙ c.in_ok-finish.ensures

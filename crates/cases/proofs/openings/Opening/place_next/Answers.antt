@@ -5,10 +5,10 @@ use Rattle.cases.proofs.openings.Opening.place_next.Goals as goal
 
 pub place-requires-clause-room : goal.place-requires-clause-room
 place-requires-clause-room c =
-    let e = behind_placing c.args.self.now.names.now c.args.self.now.atoms.now c.args.k c.args.case.row (shape_of c.args.case) c.if-k-self.true in
+    let e = behind_placing c.args.self.now.names.now c.args.self.now.atoms.now c.args.k c.args.case.row (shape_of c.args.case) (rw c.from.ensures at c.if-from-self.true) in
     rw e at c.requires.room
 
-pub returns-then-k-self-clause-piled : goal.returns-then-k-self-clause-piled
-returns-then-k-self-clause-piled c =
-    let e = behind_placing c.args.self.now.names.now c.args.self.now.atoms.now c.args.k c.args.case.row (shape_of c.args.case) c.if-k-self.true in
+pub returns-then-from-self-clause-piled : goal.returns-then-from-self-clause-piled
+returns-then-from-self-clause-piled c =
+    let e = behind_placing c.args.self.now.names.now c.args.self.now.atoms.now c.args.k c.args.case.row (shape_of c.args.case) (rw c.from.ensures at c.if-from-self.true) in
     rw e c.place.ensures.piled
