@@ -95,7 +95,7 @@ impl Body {
         self.has_bad_target(i, row) || i == self.rows.len() && !row.may_end()
     }
 
-    // The lowest row that is misplaced.
+    // The lowest row that is misplaced. A loop of its own, as in `heavy_piece`: a closure for the test would need more said of it than the loop does.
     pub(crate) fn first_misplaced(&self) -> Option<usize>
         ensures { result ≡ first_misplaced (rows_in self.now) 1 (rows_in self.now) }
     {

@@ -319,7 +319,7 @@ fn operand(scope: &Scope, class: Class, value: u16) -> Option<u8>
     }
 }
 
-// The six columns, if each holds what it may hold.
+// The six columns, if each holds what it may hold. One line for each: a method of `Six` with a closure would have these six lines, and this its only call.
 pub(crate) fn operands(scope: &Scope, classes: &Six<Class>, values: &Six<u16>) -> Option<Six<u8>>
     ensures { result ≡ (if fits scope.now classes.now values.now then Some values.now else None) }
 {
