@@ -308,7 +308,7 @@ fn is_allowed(scope: &Scope, class: Class, value: u16) -> bool
     }
 }
 
-// The value, if its column may hold it.
+// The value, if its column may hold it. No `then_some`, which would narrow the value ahead of the test.
 fn operand(scope: &Scope, class: Class, value: u16) -> Option<u8>
     ensures { result ≡ (if allowed scope.now class value then Some value else None) }
 {

@@ -47,6 +47,7 @@ fn drafted(lines: &[Numbers]) -> Result<Draft, Fault>
 {
     let mut draft = started();
     for (k, line) in lines.iter().enumerate() {
+        // no `map_err` and `?`: with a closure that has the place in it the loop's invariant did not close
         if let Err(problem) = draft.take(line) {
             return Err(Fault::at(problem, k + 1));
         }
