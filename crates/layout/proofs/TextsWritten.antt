@@ -26,11 +26,11 @@ length-written l =
     (column_longer l.operands.third 13 _ (column_longer l.operands.fourth 9 _ (column_longer l.operands.fifth 5 _
     (column_longer l.operands.sixth 1 _ refl))))))
 
-pub length-joined : (ls : List Numbers) → length (flat_map written ls) ≡ length ls * 29
-length-joined [] = refl
-length-joined (l ∷ ls) =
+pub length-flat_map-written : (ls : List Numbers) → length (flat_map written ls) ≡ length ls * 29
+length-flat_map-written [] = refl
+length-flat_map-written (l ∷ ls) =
     let a = length-written l in
-    let b = length-joined ls in
+    let b = length-flat_map-written ls in
     let n : 29 + length ls * 29 ≡ suc (length ls) * 29 = omega arith in
     length-append (written l) (flat_map written ls) ∙ (ap (λ k. k + length (flat_map written ls)) a ∙ (ap (λ k. 29 + k) b ∙ n))
 
@@ -62,7 +62,7 @@ blank = record { kind = 0; operands = record { first = 0; second = 0; third = 0;
 pub texts_read : TextsRead
 texts_read ls a some few =
     let t = flat_map written ls in
-    let n = length-joined ls in
+    let n = length-flat_map-written ls in
     let g : bad_length (length t) ≡ false = grind (arith, nat_tests) in
     let q : length t / 29 ≡ length ls = omega arith in
     good_length t g ∙ (ap (λ m. first_lines m t) q ∙ (first_read ls blank (length ls) a (omega arith) ∙ ap Ok (take_all (length ls) ls (omega arith))))
@@ -161,7 +161,7 @@ first_fault t (suc n) e g h r = elim (refused_step (first_lines n t) n t e r) [
 
 pub texts_refused : TextsRefused
 texts_refused t e r = elim (cases_Bool (bad_length (length t))) [
-  | inl b ↦ inl (record { bad_length_lem = b; fault = let f = sym (bad_length_lem t b) ∙ r in cc })
+  | inl b ↦ inl (record { unfit = b; fault = let f = sym (bad_length_lem t b) ∙ r in cc })
   | inr g ↦ inr (first_fault t (length t / 29) e g (omega arith) (sym (good_length t g) ∙ r))
 ]
 

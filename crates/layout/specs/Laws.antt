@@ -15,7 +15,7 @@ pub record TextOf (t : List ℕ) (ls : List Numbers) : Type 0 where
 
 -- no whole number of lines from 1 to 123
 pub record BadLength (t : List ℕ) (e : Report) : Type 0 where
-  pub bad_length_lem : bad_length (length t) ≡ true
+  pub unfit : bad_length (length t) ≡ true
   pub fault : e ≡ plain 101 0
 
 -- behind j lines that hold numbers stands one that holds none, and the fault has its place, counted from 1

@@ -127,7 +127,7 @@ not_before_line t e b m q a (inr (ls, r, f)) = let o = ordered (turn m) 1 a in l
 
 text_first : (t : List ℕ) (e : Report) → lines_of t ≡ Err e → First t e
 text_first t e r = elim (texts_refused t e r) [
-  | inl b ↦ record { number = 101; place = 0; fault = b.fault; holds = wrong_length b.bad_length_lem; none_ahead = λ m q a c. not_before_length t m q a (sorted t m q c) }
+  | inl b ↦ record { number = 101; place = 0; fault = b.fault; holds = wrong_length b.unfit; none_ahead = λ m q a c. not_before_length t m q a (sorted t m q c) }
   | inr b ↦ record { number = 102; place = suc b.j; fault = b.fault; holds = broken_line b.good_length b.inside b.broken; none_ahead = λ m q a c. not_before_line t e b m q a (sorted t m q c) }
 ]
 
