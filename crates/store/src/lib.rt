@@ -10,6 +10,7 @@ pub mod shared;
 
 // Cells with links. Any number may be offered as an address or a link; no call fails but by its answer.
 // Every call keeps the kinds of the faults and the lent memory, so that its lender knows what it holds when the store ends.
+// A method of a trait states its own clauses, so `keeps` stands in each.
 pub trait Store {
     // The number of the make: an open number and no enum, since anyone can write a make of store.
     const KIND: u16;

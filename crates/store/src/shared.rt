@@ -1,6 +1,6 @@
 // What the makes of store share: the lengths that a lent list can have, and the numbers that can be links.
 ghost use Rattle.std.specs.Prelude.{◌≡◌, length};
-ghost use Rattle.store.specs.Shared.{fitting_up_to, LinksTo, TestsUpTo, usable_up_to};
+ghost use Rattle.store.specs.Shared.{cleared_up_to, fitting_up_to, LinksTo, TestsUpTo, usable_up_to};
 
 use heap::{Fault, Problem};
 
@@ -22,6 +22,18 @@ pub fn usable<const MOST: usize, T>(places: &[T]) -> &[T]
         places
     } else {
         &places[..0]
+    }
+}
+
+// Makes all places blank, if there is a right number of them. A loop and no `fill`, which at a type parameter asks that no clone fails.
+pub fn clear<const MOST: usize, T: Copy>(places: &mut [T], blank: T)
+    ensures { places.new ≡ cleared_up_to MOST blank places.old }
+{
+    if !fits::<MOST>(places.len()) {
+        return;
+    }
+    for place in places.iter_mut() {
+        *place = blank;
     }
 }
 

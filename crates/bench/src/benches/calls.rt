@@ -74,7 +74,7 @@ impl Bench<'_> {
     }
 }
 
-// Each call states the trait's promises again, at the ghost members of this make, and then what it leaves in the words.
+// Each call states the trait's promises again, at the ghost members of this make, and then what it leaves in the words: that is its promise to the lender, so it stands in each.
 impl<'a> Store for Bench<'a> {
     const KIND: u16 = 1;
 

@@ -15,15 +15,6 @@ pub fn check(words: &[u16]) -> Result<(), Fault>
     shared::check::<MOST, u16>(words, <Bench<'_> as Store>::KIND)
 }
 
-// Makes all cells dead, if the words can be a bench. Not in `shared`: at a type parameter `fill` asks that no clone fails.
-fn clear(words: &mut [u16])
-    ensures { words.new ≡ cleared words.old }
-{
-    if shared::fits::<MOST>(words.len()) {
-        words.fill(DEAD);
-    }
-}
-
 impl<'a> Bench<'a> {
     // The bench in these words, without a live cell; a list of a wrong length is left as it is, now and by every call.
     pub fn over(words: &'a mut [u16]) -> Bench<'a>
@@ -31,7 +22,7 @@ impl<'a> Bench<'a> {
         ensures empty { Empty (store_of result).heap }
         ensures lent { lender_of result ≡ words.entry.ghost_name }
     {
-        clear(words);
+        shared::clear::<MOST, u16>(words, DEAD);
         let hint = shared::usable::<MOST, u16>(words).len();
         Bench { words, hint }
     }

@@ -111,6 +111,7 @@ impl Ledger<'_> {
     }
 }
 
+// Each call states the trait's promises again, at the ghost members of this make, and then what it leaves in the records: that is its promise to the lender, so it stands in each.
 impl<'a> Store for Ledger<'a> {
     const KIND: u16 = 2;
 

@@ -16,23 +16,16 @@ pub fn check(records: &[Record]) -> Result<(), Fault>
     shared::check::<MOST, Record>(records, <Ledger<'_> as Store>::KIND)
 }
 
-// Writes 0 and 0 into every record, if there is a right number of them. Not in `shared`: at a type parameter `fill` asks that no clone fails.
-fn prepare(records: &mut [Record])
-    ensures { records.new ≡ cleared records.old }
-{
-    if shared::fits::<MOST>(records.len()) {
-        records.fill(Record::UNUSED);
-    }
-}
-
 impl<'a> Ledger<'a> {
     // The ledger in these records, without a live cell; a list of a wrong length is left as it is, now and by every call.
+    #[tactic(auto, using(crate::proofs::Usable::cleared_sound))]
     pub fn over(records: &'a mut [Record]) -> Ledger<'a>
         ensures records { result.records.now ≡ cleared records.old }
         ensures last { result.last ≡ 4095 }
         ensures home { result.records.ghost_name ≡ records.entry.ghost_name }
     {
-        prepare(records);
+        shared::clear::<MOST, Record>(records, Record::UNUSED);
+        // 4,095 stands for none given yet, since the address behind it is 1, the first.
         Ledger { records, last: TOP }
     }
 }
