@@ -1,4 +1,4 @@
-// Cases laid on a pile that is known to have room. How much room is said at each call: it depends on the pile and on what is to be laid there.
+// Cases laid on a pile that is known to have room. The pile is the search's, which goes on with it, so it is handed on beside each case. How much room is said at each call: it depends on the pile and on what is to be laid there.
 ghost use Rattle.std.specs.Prelude.{◌≡◌, ℕ, ◌<◌, List, [], ◌∷◌, length};
 ghost use Rattle.heap.specs.declared.atoms.Atom.{Atom};
 ghost use Rattle.heap.specs.Piles.{capacity, entries};

@@ -1,6 +1,6 @@
 // Shapes: symbolic heaps in which everything is decided.
 
-// A node of a shape: node 0 is nil, different nodes have different values.
+// A node of a shape: node 0 is nil, different nodes have different values. A number and no enum, since it is an index of edges.
 pub type Node = u8;
 
 // What is known of the cell at a node.

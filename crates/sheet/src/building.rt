@@ -10,7 +10,7 @@ use crate::rows::{AtomList, Row};
 use heap::Atom;
 use layout::Six;
 
-// The atom of a line; of a line that is none, whatever.
+// The atom of a line; of a line that is none, whatever. Kind and columns are the line's, once it is checked; a struct of both would be made for the one call of `add`.
 pub(crate) fn atom_for(kind: Kind, columns: &Six<u8>) -> Atom
     ensures { result ≡ atom_for kind columns.now }
 {

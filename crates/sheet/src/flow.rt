@@ -111,7 +111,7 @@ impl Body {
 // One entry for each row, and one behind the last.
 const LANDINGS: usize = 41;
 
-// The entry of a row; nothing behind the last.
+// The entry of a row; nothing behind the last. The weights and a row's number go through three functions; a struct of both would be made in one place, at each turn of its loop.
 fn entry_at(weights: &[u8], k: usize) -> u8
     ensures { result ≡ slice_index weights.now k }
 {

@@ -61,7 +61,7 @@ pub enum Class {
     Named,
 }
 
-// One row of the table: the number of a kind, the classes of its columns, and what it adds to the weight of a piece.
+// One row of the table: the number of a kind, the classes of its columns, and what it adds to the weight of a piece. The number stands here and not with the kind: the table is the format's, and in the kinds' order.
 #[derive(Clone, Copy, PartialEq, Eq, Debug)]
 pub struct Entry {
     pub code: u16,
@@ -71,7 +71,7 @@ pub struct Entry {
     pub weight: u8,
 }
 
-// What the classes depend on.
+// What the classes depend on; the four functions below that take it are one test each, and no methods of it.
 #[derive(Clone, Copy, PartialEq, Eq, Debug, Default)]
 pub struct Scope {
     pub variables: u8,

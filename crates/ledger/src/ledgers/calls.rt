@@ -74,7 +74,7 @@ impl Ledger<'_> {
         (from..TOP + 1).find(|a| !self.holds(u32::from(*a)))
     }
 
-    // The first address behind the last one given that is not live.
+    // The first address behind the last one given that is not live. A `match`: of what a closure under `or_else` gives the proof would know nothing.
     fn next_dead(&self) -> u16
         ensures { NextDead self.now.records.now self.now.last result }
     {
