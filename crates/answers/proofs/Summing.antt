@@ -4,8 +4,7 @@ use lib.ListN.{length-map}
 use Rattle.std.proofs.lemmas.List.{append_assoc}
 use Rattle.sheet.specs.Routines.{Command, assign, load, store, new, free, jump, branch, cut, call, done, Routine, atoms_behind, total, list_of}
 use Rattle.sheet.specs.declared.rows.Row.{Row}
-use Rattle.arrayvec.specs.ArrayVec.{ArrayVec}
-use Rattle.heap.specs.declared.atoms.Atom.{Atom}
+use Rattle.sheet.specs.declared.rows.AtomList.{AtomList}
 use Rattle.sheet.specs.declared.sheets.Head.{Head}
 use Rattle.sheet.specs.Laid.{laid_list, laid_row}
 use Rattle.sheet.specs.Sheets.{head_of}
@@ -39,16 +38,16 @@ same_summary : {a b c d e f g h i j k l : ℕ} → a ≡ g → b ≡ h → c ≡
 same_summary ea eb ec ed ee ef = rw (ea, eb, ec, ed, ee, ef)
 
 -- the atoms of a routine, counted where they lie
-atoms_of : (R : Routine) (b a : ArrayVec Atom) (rs : List Row) → b ≡ laid_list R.before → a ≡ laid_list R.after → rs ≡ map laid_row R.rows → length b.items + length a.items + count_rows rs ≡ total R
+atoms_of : (R : Routine) (b a : AtomList) (rs : List Row) → b ≡ laid_list R.before → a ≡ laid_list R.after → rs ≡ map laid_row R.rows → b.count + a.count + count_rows rs ≡ total R
 atoms_of R b a rs eb ea er =
-    let x = ap (λ l. length l.items) eb in
-    let y = ap (λ l. length l.items) ea in
+    let x = ap (λ l. l.count) eb in
+    let y = ap (λ l. l.count) ea in
     let z = ap count_rows er in
     let c = count_laid R.rows in
     omega arith
 
-pub summed : (R : Routine) (h : Head) (b a : ArrayVec Atom) (rs : List Row) (n : ℕ) {l0 l1 l2 l3 l4 l5 l6 l7 : List ℕ}
-    → h ≡ head_of R → b ≡ laid_list R.before → a ≡ laid_list R.after → rs ≡ map laid_row R.rows → n ≡ length b.items + length a.items + count_rows rs
+pub summed : (R : Routine) (h : Head) (b a : AtomList) (rs : List Row) (n : ℕ) {l0 l1 l2 l3 l4 l5 l6 l7 : List ℕ}
+    → h ≡ head_of R → b ≡ laid_list R.before → a ≡ laid_list R.after → rs ≡ map laid_row R.rows → n ≡ b.count + a.count + count_rows rs
     → l0 ≡ [] → l1 ≡ l0 ++ item (codes "routine") h.own → l2 ≡ l1 ++ item (codes " variables") h.variables
     → l3 ≡ l2 ++ item (codes " arguments") h.arguments → l4 ≡ l3 ++ item (codes " ghosts") h.ghosts
     → l5 ≡ l4 ++ item (codes " rows") (length rs) → l6 ≡ l5 ++ item (codes " atoms") n → l7 ≡ l6 ++ (10 ∷ [])

@@ -33,8 +33,8 @@ count_row (New x) = 0
 count_row (Free x) = 0
 count_row (Jump r) = 0
 count_row (Branch e f r) = 0
-count_row (Cut l) = length l.items
-count_row (Call x q y z s t l) = length l.items
+count_row (Cut l) = l.count
+count_row (Call x q y z s t l) = l.count
 count_row Done = 0
 
 abbrev pub count_rows : List Row → ℕ

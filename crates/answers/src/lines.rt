@@ -3,8 +3,7 @@ ghost use Rattle.std.specs.Prelude.{◌≡◌, ◌+◌, ◌≤◌, [], ◌++◌,
 ghost use Rattle.heap.specs.Faults.{report};
 ghost use Rattle.answers.specs.Shown.{answer_line};
 
-use crate::shown::Shown;
-use arrayvec::ArrayVec;
+use crate::shown::{Shown, WIDTH};
 use heap::Fault;
 use layout::column;
 
@@ -14,7 +13,7 @@ impl Shown {
         ensures bytes { result.now ≡ self.now }
         ensures few { length result.now ≤ 70 }
     {
-        self.bytes.as_slice()
+        &self.bytes[0..self.count]
     }
 
     // A line without a byte.
@@ -22,7 +21,8 @@ impl Shown {
         ensures { result ≡ [] }
     {
         Shown {
-            bytes: ArrayVec::new(),
+            bytes: [0; WIDTH],
+            count: 0,
         }
     }
 
@@ -31,7 +31,9 @@ impl Shown {
         requires { length self.old + length part.now ≤ 70 }
         ensures { self.new ≡ self.old ++ part.now }
     {
-        let _ = self.bytes.try_extend_from_slice(part);
+        let end = self.count + part.len();
+        self.bytes[self.count..end].copy_from_slice(part);
+        self.count = end;
     }
 }
 

@@ -16,6 +16,7 @@ pub mod ReadsText
 pub mod Rooms
 pub mod RowPlaces
 pub mod RowsIn
+pub mod Tables
 pub mod TextReads
 pub mod WeightsExact
 pub mod WeightsPass

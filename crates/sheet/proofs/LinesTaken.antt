@@ -1,13 +1,17 @@
 -- The lines of a text, taken by a draft one after another, are the lines of the definition.
-use Rattle.std.proofs.Common.{◌≡◌, ℕ, ◌≤◌, true, false, Some, None, Ok, Option, sym, refl, ap, ◌∙◌, subst, arith}
+use Rattle.std.proofs.Common.{◌≡◌, ℕ, suc, ◌≤◌, true, false, List, [], ◌∷◌, length, Some, None, Ok, Option, sym, refl, ap, ◌∙◌, subst, arith}
+use Rattle.heap.specs.declared.atoms.Atom.{Atom}
 use Rattle.heap.specs.declared.faults.Problem.{Problem}
 use Rattle.layout.specs.declared.lines.Six.{Six}
 use Rattle.layout.specs.declared.lines.Numbers.{Numbers}
 use Rattle.sheet.specs.declared.kinds.Kind.TheVariants.{Head}
 use Rattle.sheet.specs.declared.kinds.Role.TheVariants as role
 use Rattle.sheet.specs.declared.kinds.Entry.{Entry}
+use Rattle.sheet.specs.declared.drafts.Stage.{Stage}
+use Rattle.sheet.specs.declared.drafts.Stage.TheVariants.{Start, Headed, BeforeList, Rows}
+use Rattle.sheet.specs.Routines.{Command, Routine}
 use Rattle.sheet.specs.Kinds.{table, entry_for, fits, classes_of}
-use Rattle.sheet.specs.Reading.{Progress, due, overfull, scope_for, wrong, next_by, or_wrong, line_by, line_more}
+use Rattle.sheet.specs.Reading.{Progress, at_last, atom_in_rows, atom_into, due, overfull, scope_for, with_atom, wrong, next_by, or_wrong, line_by, line_more}
 use Rattle.sheet.proofs.Rooms.{passed}
 use Rattle.sheet.proofs.KindsKnown.{Known, is_head, rows_promised}
 
@@ -44,3 +48,19 @@ pub promise : (p : Progress) (n : ℕ) (e : Entry) (v : Six ℕ) → Known n e �
 promise p n e v k r h =
     let c : classes_of k.of_kind ≡ classes_of Head = ap classes_of (is_head k.of_kind (sym (ap (λ x. x.role) k.entry) ∙ h)) in
     rows_promised (scope_for p e.role v) v (subst (λ x. fits (scope_for p e.role v) x v ≡ true) (ap (λ x. x.classes) k.entry ∙ c) r.fitting)
+
+-- an atom adds no row
+length-at_last : (f : Command → Command) (rows : List Command) → length (at_last f rows) ≡ length rows
+length-at_last f [] = refl
+length-at_last f (c ∷ []) = refl
+length-at_last f (c ∷ d ∷ cs) = ap suc (length-at_last f (d ∷ cs))
+
+same_rows : (R : Routine) (a : Atom) (rows : List Command) → R.rows ≡ rows → length (atom_in_rows R a rows).rows ≡ length R.rows
+same_rows R a [] e = refl
+same_rows R a (c ∷ cs) e = length-at_last (with_atom a) (c ∷ cs) ∙ sym (ap (λ l. length l) e)
+
+pub rows_kept : (s : Stage) (R : Routine) (a : Atom) → length (atom_into s R a).rows ≡ length R.rows
+rows_kept Start R a = refl
+rows_kept Headed R a = refl
+rows_kept BeforeList R a = refl
+rows_kept Rows R a = same_rows R a R.rows refl

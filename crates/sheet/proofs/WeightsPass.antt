@@ -1,7 +1,7 @@
 -- The pass from the last row back, entry by entry.
 use Rattle.std.proofs.Common.{◌≡◌, ℕ, zero, suc, ◌+◌, ◌-◌, ◌<◌, ◌≤◌, max, Bool, true, false, cond, ◌&&◌, ltb, List, ◌∷◌, length, get_or, drop, set, replicate, Some, sym, refl, ap, ◌∙◌, subst, inl, inr, add-one, arith}
 use Rattle.std.proofs.lemmas.List.{at_drop_more, at_drop_all, get_or-set_same, get_or-set_other, length-drop, get_or-drop}
-use Rattle.std.proofs.lemmas.Bool.{cases_Bool, cond-true, cond-false, ltb-true, le-ltb}
+use Rattle.std.proofs.lemmas.Bool.{cases_Bool, cond-true, cond-false, ltb-true, lt-ltb, le-ltb}
 use Rattle.sheet.specs.Routines.{Command, assign, load, store, new, free, jump, branch, cut, call, done}
 use Rattle.sheet.specs.Reading.{ahead, weighs, weights, first_heavy, heavy_piece}
 use Rattle.sheet.specs.Flow.{opens}
@@ -102,3 +102,6 @@ heavy_later rows i b h e t = heavy_step rows i h ∙ cond-false _ (Some (i + 1))
 
 pub start_light : (rows : List Command) → get_or (weights 1 rows) 0 0 ≤ 8 → heavy_piece rows ≡ first_heavy 1 rows
 start_light rows h = cond-false (ltb 8 (get_or (weights 1 rows) 0 0)) (Some 0) (first_heavy 1 rows) (le-ltb 8 (get_or (weights 1 rows) 0 0) h)
+
+pub start_heavy : (rows : List Command) → 8 < get_or (weights 1 rows) 0 0 → heavy_piece rows ≡ Some 0
+start_heavy rows h = cond-true (ltb 8 (get_or (weights 1 rows) 0 0)) (Some 0) (first_heavy 1 rows) (lt-ltb 8 (get_or (weights 1 rows) 0 0) h)

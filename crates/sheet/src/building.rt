@@ -1,6 +1,6 @@
 // Rows and lists made from the columns of lines.
 ghost use Rattle.std.specs.Prelude.{◌≡◌, ◌<◌, length};
-ghost use Rattle.sheet.specs.Laid.{command_in};
+ghost use Rattle.sheet.specs.Laid.{command_in, laid_row};
 ghost use Rattle.sheet.specs.Reading.{atom_for, command_for, open_behind, with_atom};
 ghost use Rattle.sheet.specs.Routines.{list_of};
 
@@ -37,7 +37,7 @@ pub(crate) fn atom_for(kind: Kind, columns: &Six<u8>) -> Atom
 
 // The row of a line, its list still empty; of a line that is none, `Done`.
 pub(crate) fn row_for(kind: Kind, columns: &Six<u8>) -> Row
-    ensures { command_in result ≡ command_for kind columns.now }
+    ensures { result ≡ laid_row (command_for kind columns.now) }
 {
     let Six {
         first,
@@ -69,7 +69,7 @@ pub(crate) fn row_for(kind: Kind, columns: &Six<u8>) -> Row
             to: third,
         },
         Kind::Cut => Row::Cut {
-            list: AtomList::new(),
+            list: AtomList::EMPTY,
         },
         Kind::Call => Row::Call {
             into: first,
@@ -78,7 +78,7 @@ pub(crate) fn row_for(kind: Kind, columns: &Six<u8>) -> Row
             second: fourth,
             first_ghost: fifth,
             second_ghost: sixth,
-            frame: AtomList::new(),
+            frame: AtomList::EMPTY,
         },
         _ => Row::Done,
     }
@@ -87,18 +87,19 @@ pub(crate) fn row_for(kind: Kind, columns: &Six<u8>) -> Row
 impl Row {
     // The list behind the row among so many variables, if the row has one.
     pub(crate) fn open(&self, variables: u8) -> Option<Open>
+        requires { self.now ≡ laid_row (command_in self.now) }
         ensures { result ≡ open_behind variables (command_in self.now) }
     {
         match self {
             Row::Cut { list } => Some(Open {
                 named: variables,
                 except: 0,
-                count: list.len(),
+                count: usize::from(list.count),
             }),
             Row::Call { into, frame, .. } => Some(Open {
                 named: variables,
                 except: *into,
-                count: frame.len(),
+                count: usize::from(frame.count),
             }),
             _ => None,
         }
@@ -106,8 +107,9 @@ impl Row {
 
     // One atom more in the list behind the row.
     pub(crate) fn push(&mut self, atom: Atom)
-        requires { length (list_of (command_in self.old)) < 8 }
-        ensures { command_in self.new ≡ with_atom atom (command_in self.old) }
+        requires lies { self.old ≡ laid_row (command_in self.old) }
+        requires room { length (list_of (command_in self.old)) < 8 }
+        ensures { self.new ≡ laid_row (with_atom atom (command_in self.old)) }
     {
         match self {
             Row::Cut { list } => list.push(atom),

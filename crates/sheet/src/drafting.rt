@@ -1,6 +1,6 @@
 // What a line adds to a draft, and what may be wrong with it.
 ghost use Rattle.std.specs.Prelude.{◌≡◌, ℕ, ◌+◌, ◌<◌, ◌≤◌, true, false, Ok, Err, MatchResult};
-ghost use Rattle.sheet.specs.Laid.{routine_in};
+ghost use Rattle.sheet.specs.Laid.{laid, routine_in};
 ghost use Rattle.sheet.specs.Routines.{total};
 ghost use Rattle.sheet.specs.Reading.{atom_in_rows, atom_into, due, full, is_open, last_of, line_more, moved, next_by, open_in, open_last, overfull, scope_for, scope_in, wrong};
 ghost use Rattle.sheet.specs.ModelReading.{checked_by, progress_in, RoomFor, rows_in};
@@ -16,6 +16,7 @@ use layout::{Numbers, Six};
 impl Body {
     // The list to which an atom would belong among the rows: the last row's, or ahead of all rows the after list.
     fn open(&self) -> Option<Open>
+        requires { self.now ≡ laid (routine_in self.now) }
         ensures { result ≡ open_last (routine_in self.now) (last_of (rows_in self.now)) }
     {
         match self.rows.as_slice().last() {
@@ -23,15 +24,17 @@ impl Body {
             None => Some(Open {
                 named: 1,
                 except: 0,
-                count: self.after.len(),
+                count: usize::from(self.after.count),
             }),
         }
     }
 
     // One atom more among the rows: in the last row's list, or ahead of all rows in the after list.
     fn add_atom(&mut self, atom: Atom)
+        requires whole { self.old ≡ laid (routine_in self.old) }
         requires open { is_open (open_last (routine_in self.old) (last_of (rows_in self.old))) ≡ true }
         requires room { full (open_last (routine_in self.old) (last_of (rows_in self.old))) ≡ false }
+        ensures whole { self.new ≡ laid (routine_in self.new) }
         ensures routine { routine_in self.new ≡ atom_in_rows (routine_in self.old) atom (rows_in self.old) }
         ensures count { total (routine_in self.new) ≡ total (routine_in self.old) + 1 }
     {
@@ -55,7 +58,7 @@ impl Draft {
             Stage::BeforeList => Some(Open {
                 named: self.body.head.arguments,
                 except: 0,
-                count: self.body.before.len(),
+                count: usize::from(self.body.before.count),
             }),
             Stage::Rows => self.body.open(),
         }

@@ -1,6 +1,6 @@
 // A sheet that is being read, line by line.
 ghost use Rattle.std.specs.Prelude.{◌≡◌, ◌≤◌};
-ghost use Rattle.sheet.specs.Laid.{routine_in};
+ghost use Rattle.sheet.specs.Laid.{laid, routine_in};
 ghost use Rattle.sheet.specs.Routines.{total};
 
 use crate::sheets::Body;
@@ -35,4 +35,5 @@ pub struct Draft {
     pub body: Body,
     ghost counted: { atoms ≡ total (routine_in body) },
     ghost few: { promised ≤ 40 },
+    ghost whole: { body ≡ laid (routine_in body) },
 }

@@ -4,7 +4,7 @@ ghost use Rattle.heap.specs.Faults.{report};
 ghost use Rattle.sheet.specs.Routines.{Routine};
 ghost use Rattle.sheet.specs.Written.{text_of};
 ghost use Rattle.sheet.specs.Formed.{WellFormed};
-ghost use Rattle.sheet.specs.Laid.{laid_list, laid_row, routine_in};
+ghost use Rattle.sheet.specs.Laid.{laid, laid_list, laid_row};
 ghost use Rattle.sheet.specs.Reading.{reading};
 ghost use Rattle.sheet.specs.Laws.{First};
 ghost use Rattle.sheet.specs.Sheets.{new_routine, head_of, said, answered, filled_by};
@@ -16,7 +16,7 @@ use crate::sheets::{Body, Head};
 use heap::Fault;
 
 fn new_body() -> Body
-    ensures { routine_in result ≡ new_routine }
+    ensures { result ≡ laid new_routine }
 {
     let mut body = Body::empty(Head {
         variables: 1,
@@ -41,7 +41,10 @@ impl Sheet {
         ensures reads { MatchResult result (λ _. reading text.now ≡ Ok self.new) (λ f. reading text.now ≡ Err (report f)) }
         ensures written { MatchResult result (λ _. WellFormed self.new × (text.now ≡ text_of self.new)) (λ f. First text.now (report f)) }
         ensures every { (R : Routine) → WellFormed R → text.now ≡ text_of R → (said result ≡ Ok tt) × (self.new ≡ R) }
+        ensures formed { WellFormed self.new }
     {
+        // what the type promises of the sheet is known of it from here on, also where the text is refused
+        let _kept = &self.body;
         self.body = read_body(text)?;
         Ok(())
     }

@@ -1,7 +1,7 @@
 // Reading: lines into a draft, and the tests of its rows.
 ghost use Rattle.std.specs.Prelude.{◌≡◌, ◌≤◌, ◌&&◌, [], Ok, Err, MatchResult, ◌==◌, length};
 ghost use Rattle.heap.specs.Faults.{report};
-ghost use Rattle.sheet.specs.Laid.{routine_in};
+ghost use Rattle.sheet.specs.Laid.{laid, laid_list, routine_in};
 ghost use Rattle.sheet.specs.Reading.{start, all_lines, complete, finished, reading};
 ghost use Rattle.sheet.specs.ModelReading.{progress_in};
 
@@ -16,14 +16,14 @@ impl Body {
     // A body without rows and atoms.
     pub(crate) fn empty(head: Head) -> Body
         ensures head { result.head ≡ head }
-        ensures before { result.before.items ≡ [] }
-        ensures after { result.after.items ≡ [] }
+        ensures before { result.before ≡ laid_list [] }
+        ensures after { result.after ≡ laid_list [] }
         ensures rows { result.rows.items ≡ [] }
     {
         Body {
             head,
-            before: AtomList::new(),
-            after: AtomList::new(),
+            before: AtomList::EMPTY,
+            after: AtomList::EMPTY,
             rows: ArrayVec::new(),
         }
     }
@@ -83,7 +83,7 @@ impl Draft {
 
 // The contents of the sheet that a text writes.
 pub(crate) fn read_body(text: &[u8]) -> Result<Body, Fault>
-    ensures { MatchResult result (λ b. reading text.now ≡ Ok (routine_in b)) (λ f. reading text.now ≡ Err (report f)) }
+    ensures { MatchResult result (λ b. (reading text.now ≡ Ok (routine_in b)) × (b ≡ laid (routine_in b))) (λ f. reading text.now ≡ Err (report f)) }
 {
     let scanned = scan(text)?;
     let lines = scanned.lines();

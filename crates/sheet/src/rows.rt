@@ -1,7 +1,7 @@
 // Rows and lists of atoms, in memory of a fixed size.
-ghost use Rattle.std.specs.Prelude.{◌≡◌};
+ghost use Rattle.std.specs.Prelude.{◌≡◌, ◌<◌, [], ◌∷◌, ◌++◌, length};
+ghost use Rattle.sheet.specs.Laid.{laid_list, list_in};
 
-use arrayvec::ArrayVec;
 use heap::{Atom, Name};
 
 // How many atoms a list holds at most.
@@ -13,11 +13,34 @@ pub const ROWS: usize = 40;
 // How many atoms a sheet has at most.
 pub const ATOMS: u8 = 80;
 
-// The atoms of one assertion.
-pub type AtomList = ArrayVec<Atom, LIST>;
+// The atoms of one assertion; behind the last stands `Eq` of nil and nil, so that a list lies in one way only.
+// An array and a count, and no `ArrayVec`: that is not `Copy`, and rows are copied and laid on piles.
+#[derive(Clone, Copy, PartialEq, Eq, Debug)]
+pub struct AtomList {
+    pub atoms: [Atom; LIST],
+    pub count: u8,
+}
+
+impl AtomList {
+    // A list of no atoms.
+    pub(crate) const EMPTY: AtomList = AtomList {
+        atoms: [Atom::Eq { left: 0, right: 0 }; LIST],
+        count: 0,
+    };
+
+    // One atom more, for which there is room.
+    pub(crate) fn push(&mut self, atom: Atom)
+        requires lies { self.old ≡ laid_list (list_in self.old) }
+        requires room { length (list_in self.old) < 8 }
+        ensures { self.new ≡ laid_list (list_in self.old ++ atom ∷ []) }
+    {
+        self.atoms[usize::from(self.count)] = atom;
+        self.count += 1;
+    }
+}
 
 // What a row does. Rows are numbered from 1.
-#[derive(Clone, PartialEq, Eq, Debug, Drop)]
+#[derive(Clone, Copy, PartialEq, Eq, Debug)]
 pub enum Row {
     // `into` becomes the value of `from`
     Set {

@@ -12,11 +12,15 @@ pub struct Sheet {
 impl Model for Sheet {
     ghost use Rattle.sheet.specs.Routines.{Routine};
     ghost use Rattle.sheet.specs.Formed.{WellFormed};
-    ghost use Rattle.sheet.specs.Laid.{routine_in};
+    ghost use Rattle.std.specs.Prelude.{◌≡◌};
+    ghost use Rattle.sheet.specs.Laid.{laid, routine_in};
 
     ghost Value = { Routine };
 
     ghost view = { λ s. routine_in s.body };
 
-    ghost invariant = { λ s. WellFormed (routine_in s.body) };
+    ghost invariant = { λ s. WellFormed (routine_in s.body) × (s.body ≡ laid (routine_in s.body)) };
+
+    // a routine lies in a sheet in one way, so that sheets of the same routine are equal
+    ghost inverse = { λ R. record { body = laid R } };
 }

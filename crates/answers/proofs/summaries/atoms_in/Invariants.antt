@@ -4,4 +4,4 @@ use Rattle.answers.specs.Summaries.{count_rows}
 use Rattle.answers.proofs.summaries.atoms_in.Given as goal
 
 abbrev pub invariant-loop-row : goal.invariant-loop-row
-invariant-loop-row l = (l.sum ≤ 8 * l.row-index) × (l.sum + count_rows (drop l.row-index l.rows) ≡ count_rows l.rows)
+invariant-loop-row l = (l.sum ≤ 255 * l.row-index) × (l.sum + count_rows (drop l.row-index l.rows) ≡ count_rows l.rows)

@@ -28,4 +28,4 @@ pub returns : goal.returns
 returns c =
     let ls = c.lines-lines.result.now in
     let h = c.in_ok-scanned.ensures.defined ∙ sym (ap Ok c.lines-lines.ensures.lines) in
-    decided c.args.text.now ls (progress_in c.in_ok-draft.draft) h c.in_ok-draft.ensures ∙ c.in_ok-finish.ensures
+    (decided c.args.text.now ls (progress_in c.in_ok-draft.draft) h c.in_ok-draft.ensures ∙ c.in_ok-finish.ensures, c.in_ok-draft.draft.whole)

@@ -1,6 +1,7 @@
 -- The two ways out of reading.
-use Rattle.std.proofs.Common.{refl}
+use Rattle.std.proofs.Common.{refl, subst}
 use Rattle.std.proofs.lemmas.Result.{err_from_is_err_and}
+use Rattle.sheet.specs.Formed.{WellFormed}
 use Rattle.sheet.specs.Laid.{routine_in}
 use Rattle.sheet.proofs.FirstFault.{refusals_first}
 use Rattle.sheet.proofs.ReadPromises.{answer_is, filled_is, never_refused, reads_itself}
@@ -19,15 +20,16 @@ returns-in_err-self-inside c =
       reads = h;
       written = refusals_first t _ h;
       every = λ R w q. absurd (never_refused t _ R h w q);
+      formed = subst WellFormed c.self.view_is c.self.invariant.0;
     })
 
 pub invariant_of-self : goal.invariant_of-self
-invariant_of-self c = (reads_text c.args.text.now (routine_in c.in_ok-self-inside.field-0) c.in_ok-self-inside.ensures).0
+invariant_of-self c = let h = c.in_ok-self-inside.ensures in ((reads_text c.args.text.now (routine_in c.in_ok-self-inside.field-0) h.0).0, h.1)
 
 pub returns : goal.returns
 returns c =
     let S = routine_in c.in_ok-self-inside.field-0 in
-    let h = c.in_ok-self-inside.ensures in
+    let h = c.in_ok-self-inside.ensures.0 in
     let t = c.args.text.now in
     record {
       answer = answer_is t _ h;
@@ -35,4 +37,5 @@ returns c =
       reads = h;
       written = reads_text t S h;
       every = λ R w q. (refl, reads_itself t S R h w q);
+      formed = (reads_text t S h).0;
     }

@@ -17,7 +17,7 @@ returns-then-is_heavy c =
     let t = c.loop-i-test.true in
     let i = c.loop-i.i in
     let w = c.weights-found.ensures.entries in
-    let r = row_now b i _ c.row-item.result c.as_slice-row-items.ensures.value c.loop-i-test.true c.row-item.is in
+    let r = row_now b i _ _ c.as_slice-row-items.ensures.value c.loop-i-test.true in
     sym (start_light (rows_in b) (let z = w 0 in omega arith)
     ∙ (sym c.loop-i.invariant
     ∙ heavy_here (rows_in b) i c.is_heavy.result (omega arith)
@@ -32,7 +32,7 @@ loop-i-preserved c =
     let t = c.loop-i-test.true in
     let i = c.loop-i.i in
     let w = c.weights-found.ensures.entries in
-    let r = row_now b i _ c.row-item.result c.as_slice-row-items.ensures.value c.loop-i-test.true c.row-item.is in
+    let r = row_now b i _ _ c.as_slice-row-items.ensures.value c.loop-i-test.true in
     sym (heavy_later (rows_in b) i c.is_heavy.result (omega arith)
     (c.is_heavy.ensures ∙ (ap (λ x. opens x && ltb 8 (get_or c.weights-found.result (i + 1) 0)) r ∙ ap (λ x. opens (get_or (rows_in b) i done) && ltb 8 x) (w (i + 1))))
     c.if-is_heavy.false)

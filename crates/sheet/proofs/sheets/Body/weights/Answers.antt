@@ -1,9 +1,9 @@
 -- Row by row, back to the first.
-use Rattle.std.proofs.Common.{◌≡◌, suc, ◌+◌, ◌-◌, length, get_or, replicate, sym, refl, ap, ◌∙◌, subst, arith, length-set}
+use Rattle.std.proofs.Common.{◌≡◌, suc, ◌+◌, ◌-◌, length, replicate, sym, refl, ap, ◌∙◌, subst, arith, length-set}
 use Rattle.sheet.specs.Laid.{command_in}
 use Rattle.sheet.specs.Flow.{Most}
 use Rattle.sheet.specs.ModelReading.{rows_in}
-use Rattle.sheet.proofs.RowsIn.{length-rows, row_in}
+use Rattle.sheet.proofs.RowsIn.{length-rows, row_now}
 use Rattle.sheet.proofs.WeightsExact.{most_exact}
 use Rattle.sheet.proofs.WeightsPass.{Passed, passed_none, passed_more, passed_small, passed_all, zeros}
 use Rattle.sheet.proofs.sheets.Body.weights.Goals as goal
@@ -36,11 +36,10 @@ loop-i-preserved c =
     let i = c.loop-i.i in
     let k = c.loop-i.auto.i in
     let l = c.loop-i.invariant.0 in
-    let r = c.index-rows-i.result in
     let e : i ≡ i - 1 + 1 = omega arith in (
       length-set c.loop-i.found (i - 1) c.weight_of.result ∙ l,
-      passed_more c.loop-i.found (i - 1) c.weight_of.result (rows_in b) (command_in r) (omega arith) (omega arith)
-          (ap command_in (c.index-rows-i.is ∙ ap (λ xs. get_or xs (i - 1) r) v) ∙ row_in b (i - 1) r (omega arith)) c.weight_of.ensures
+      passed_more c.loop-i.found (i - 1) c.weight_of.result (rows_in b) (command_in _) (omega arith) (omega arith)
+          (row_now b (i - 1) c.as_slice-rows.result.now _ v (omega arith)) c.weight_of.ensures
           (subst (λ m. Passed c.loop-i.found m (rows_in b)) e c.loop-i.invariant.1),
     )
 
