@@ -1,14 +1,14 @@
 -- Proofs: how the meaning of the words changes with a word, and how the live ones are counted.
-use Rattle.std.proofs.Common.{◌≡◌, ℕ, zero, suc, ◌+◌, ◌-◌, ◌<◌, ◌≤◌, Bool, true, false, cond, ltb, List, [], length, get_or, set, take, count_by, is_some, sym, ap, ◌∙◌, refl, arith, length-set}
+use Rattle.std.proofs.Common.{◌≡◌, ℕ, zero, suc, ◌+◌, ◌-◌, ◌<◌, ◌≤◌, Bool, true, false, cond, ltb, eqb, List, [], length, get_or, set, replicate, take, count_by, is_some, None, sym, ap, ◌∙◌, refl, add-one, arith, length-set}
 use mathlib.Core.Path.{fun_ext}
-use Rattle.heap.specs.Heaps.{put, without}
-use Rattle.std.proofs.lemmas.List.{take_all, get_or-set_same, get_or-set_other}
+use Rattle.heap.specs.Heaps.{Empty, put, without}
+use Rattle.std.proofs.lemmas.List.{take_all, length-replicate, get_or-replicate, get_or-set_same, get_or-set_other}
 use Rattle.std.proofs.lemmas.Bool.Decides.{nat_tests}
 use Rattle.std.proofs.lemmas.List.Sums.{count_by_more_no, count_by_more_yes}
 use Rattle.store.proofs.Counting.{all_live}
 use Rattle.store.proofs.Lists.{size-is}
 use Rattle.store.specs.Meanings.{live_below, live_cells, with_heap}
-use Rattle.bench.specs.Words.{cells, fitting, held, LiveAbove, meant, size, usable}
+use Rattle.bench.specs.Words.{cells, cleared, fitting, held, LiveAbove, meant, size, usable}
 
 cells-put : (ws : List ℕ) (i a l : ℕ) → i + 1 ≡ a → i < size (length ws) → l < 65535 → (k : ℕ) → cells (set ws i l) k ≡ put (cells ws) a l k
 cells-put ws i a l at lt link k = grind (arith, nat_tests, length-set, get_or-set_same, get_or-set_other)
@@ -34,6 +34,22 @@ dead_cell ws a e = grind (arith, nat_tests)
 -- all cells are live, so they are as many as the words
 pub all_held : (ws : List ℕ) → LiveAbove ws 0 → live_cells (meant ws) ≡ size (length ws)
 all_held ws live = all_live (cells ws) (size (length ws)) (λ k lo hi. held_live ws k (live k (omega arith) hi))
+
+-- no cell of a bench is live when it is made
+pub cleared_empty : (ws : List ℕ) → Empty (cells (cleared ws))
+cleared_empty ws a = by_length (fitting (length ws)) refl
+  where
+    by_length : (b : Bool) → fitting (length ws) ≡ b → cells (cond b (replicate (length ws) 65535) ws) a ≡ None
+    by_length true e = grind (arith, nat_tests, length-replicate, get_or-replicate)
+    by_length false e = grind (arith, nat_tests)
+
+-- one word more to count
+pub count_more : (ws : List ℕ) (i n : ℕ) → i < size (length ws) → get_or ws i 0 ≤ 65535 → n ≡ live_below (cells ws) i → cond (eqb (get_or ws i 0) 65535) n (n + 1) ≡ live_below (cells ws) (i + 1)
+count_more ws i n lt word e =
+    let z : suc i - 1 ≡ i = omega arith in
+    let q : ◌≡◌ {A = ℕ} (cond (is_some (cells ws (suc i))) 1 0) (cond (eqb (get_or ws i 0) 65535) 0 1) = rw z (grind (arith, nat_tests)) in
+    let r : live_below (cells ws) (i + 1) ≡ cond (is_some (cells ws (suc i))) 1 0 + live_below (cells ws) i = rw add-one in
+    grind (arith, nat_tests)
 
 -- how many words hold a link
 abbrev pub links : List ℕ → ℕ

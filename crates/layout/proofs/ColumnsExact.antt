@@ -2,7 +2,7 @@
 use Rattle.std.proofs.Common.{◌≡◌, ℕ, ◌+◌, ◌-◌, ◌*◌, ◌/◌, ◌<◌, ◌&&◌, ltb, List, length, Some, None, sym, ap, ◌∙◌, subst, inl, inr, arith}
 use native.Mathlib.Nat.{div-div-eq-div-mul}
 use Rattle.std.specs.Str.{bytes_eq}
-use Rattle.std.proofs.lemmas.Bool.{cases_Bool, cases_lt, cond-true, cond-false, and_parts, and_from, ltb-true, lt-ltb, le-ltb}
+use Rattle.std.proofs.lemmas.Bool.{cases_Bool, cases_lt, cond-true, cond-false, and_right, and_parts, and_from, ltb-true, lt-ltb, le-ltb}
 use Rattle.std.proofs.lemmas.Slice.Eq.{bytes_eq-Decides}
 use Rattle.std.proofs.lemmas.Bool.Decides.{nat_tests}
 use Rattle.layout.specs.Columns.{digit_of, column_of, value_of, number_in}
@@ -12,6 +12,13 @@ some_same e = cc
 
 pub none_some : {A : Type 0} {x : A} → None ≡ Some x → ⊥
 none_some {A} {x} e = let z : ◌≡◌ {A = ℕ} 0 1 = cc in omega arith
+
+-- bytes that are not how their value is written hold no number
+pub no_number : (w s : List ℕ) → s ≡ column_of (value_of w) → (w ≡ s → ⊥) → None ≡ number_in w
+no_number w s e ne = elim (cases_Bool (bytes_eq (column_of (value_of w)) w)) [
+  | inl t ↦ absurd (ne (sym (e ∙ (bytes_eq-Decides (column_of (value_of w)) w).0 t)))
+  | inr f ↦ sym (cond-false (ltb (value_of w) 10000 && bytes_eq (column_of (value_of w)) w) (Some (value_of w)) None (and_right (ltb (value_of w) 10000) (bytes_eq (column_of (value_of w)) w) f))
+]
 
 pub length-column : (n : ℕ) → length (column_of n) ≡ 4
 length-column n = grind (arith, nat_tests)

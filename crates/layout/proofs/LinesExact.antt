@@ -2,7 +2,7 @@
 use Rattle.std.proofs.Common.{◌≡◌, ℕ, ◌+◌, ◌<◌, Bool, true, false, cond, eqb, List, [], ◌∷◌, ◌++◌, length, get_or, take, drop, Some, None, Option, sym, refl, ap, ◌∙◌, subst, arith}
 use Rattle.std.specs.Bool.{then_some}
 use Rattle.std.proofs.lemmas.List.{take_at, drop_at, take-append-drop, drop-drop, drop_all, drop_more, get_or-drop}
-use Rattle.std.proofs.lemmas.Bool.{cond-true, eqb-true, eq-eqb}
+use Rattle.std.proofs.lemmas.Bool.{cond-true, cond-false, eqb-true, eq-eqb, ne_eqb}
 use Rattle.layout.specs.Columns.{column_of, number_in}
 use Rattle.layout.specs.Lines.{written, given, column_at, numbers_in, Short}
 use Rattle.layout.specs.declared.lines.Numbers.{Numbers}
@@ -42,6 +42,9 @@ columned bs l c =
 
 pub numbers_there : (bs : List ℕ) (l : Numbers) → Columned bs l → get_or bs 28 0 ≡ 10 → numbers_in bs ≡ Some l
 numbers_there bs l c e = columned bs l c ∙ cond-true (eqb (get_or bs 28 0) 10) (Some l) None (eq-eqb (get_or bs 28 0) 10 e)
+
+pub numbers_absent : (bs : List ℕ) (l : Numbers) → Columned bs l → (get_or bs 28 0 ≡ 10 → ⊥) → None ≡ numbers_in bs
+numbers_absent bs l c ne = sym (columned bs l c ∙ cond-false (eqb (get_or bs 28 0) 10) (Some l) None (ne_eqb (get_or bs 28 0) 10 ne))
 
 -- one column more, where the bytes behind i begin with it
 column_more : (bs : List ℕ) (i n : ℕ) (rest : List ℕ) → n < 10000 → drop i bs ≡ column_of n ++ rest → (column_at bs i ≡ Some n) × (drop (i + 4) bs ≡ rest)

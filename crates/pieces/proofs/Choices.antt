@@ -46,6 +46,11 @@ some_map P Q g [] s = s
 some_map P Q g (x ∷ xs) (inl p) = inl (g x p)
 some_map P Q g (x ∷ xs) (inr s) = inr (some_map P Q g xs s)
 
+pub some_all : {A : Type 0} (P Q : A → Type 0) (C : Type 0) → ((x : A) → P x → Q x → C) → (xs : List A) → SomeOf P xs → AllByRecursion Q xs → C
+some_all P Q C g [] s a = elim s [ ]
+some_all P Q C g (x ∷ xs) (inl p) a = g x p a.0
+some_all P Q C g (x ∷ xs) (inr s) a = some_all P Q C g xs s a.1
+
 pub all_++ : {A : Type 0} (P : A → Type 0) (xs ys : List A) → AllByRecursion P xs → AllByRecursion P ys → AllByRecursion P (xs ++ ys)
 all_++ P [] ys a b = b
 all_++ P (x ∷ xs) ys a b = (a.0, all_++ P xs ys a.1 b)

@@ -3,9 +3,12 @@ use Rattle.std.proofs.Common.{◌≡◌, ℕ, zero, suc, ◌+◌, ◌<◌, ◌�
 use Rattle.std.proofs.lemmas.Bool.Decides.{nat_tests}
 use Rattle.std.proofs.lemmas.Bool.{cases_eq}
 use Rattle.pieces.specs.declared.shapes.Edge.{Edge}
+use Rattle.pieces.specs.declared.shapes.Edge.TheVariants.{Dead}
 use Rattle.heap.specs.Heaps.{Heap}
 use Rattle.pieces.specs.Pieces.{mem}
-use Rattle.pieces.specs.ModelShapes.{Model}
+use Rattle.pieces.specs.Pieces.{put}
+use Rattle.pieces.specs.ModelShapes.{Sound, Model}
+use Rattle.pieces.proofs.ShapeModels.{widen}
 
 total : List ℕ → ℕ
 total [] = 0
@@ -38,3 +41,9 @@ fresh m edge val h M =
       ],
       λ k q e. let b = in_sum m (λ k. val k + total (M.run k)) k q in omega arith,
     )
+
+-- a dead last node says nothing
+pub forget : (m : ℕ) (edge : ℕ → Edge) (name : ℕ → ℕ) (val : ℕ → ℕ) (h : Heap) → Sound m edge name → Model m edge val h → (z : ℕ) × Model (suc m) (put edge m Dead) (put val m z) h
+forget m edge name val h w M =
+    let f = fresh m edge val h M in
+    (f.0, widen m edge val h M name w f.0 (put val m f.0) (put edge m Dead) f.1 f.2 (grind (arith, nat_tests)) (λ k q. grind (arith, nat_tests)) (grind (arith, nat_tests)) (λ k q. grind (arith, nat_tests)))

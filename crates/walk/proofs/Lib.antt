@@ -1,2 +1,3 @@
 -- The lemmas of the crate, by what they show.
+pub mod Fitting
 pub mod Walks
