@@ -1,2 +1,3 @@
+pub mod Padded
 pub mod Shown
 pub mod Summaries

@@ -1,11 +1,11 @@
 -- Meaning: the bytes of the lines that programs print. Assumes nothing.
-use Rattle.std.specs.Prelude.{ℕ, List, [], ◌∷◌, ◌++◌}
+use Rattle.std.specs.Prelude.{ℕ, List, [], ◌∷◌, ◌++◌, take}
 use Rattle.layout.specs.Columns.{column_of}
-use Rattle.sheet.specs.Laid.{filled}
+use Rattle.answers.specs.declared.shown.Shown.{Shown}
 
--- how a line lies: behind its last byte stand zeros
-abbrev pub padded : List ℕ → List ℕ
-padded bytes = filled 70 0 bytes
+-- what a line shows
+abbrev pub shown : Shown → List ℕ
+shown l = take l.count l.bytes
 
 -- two columns and the end of the line
 abbrev pub answer_line : ℕ → ℕ → List ℕ

@@ -1,7 +1,7 @@
 // One line of text, piece by piece.
 ghost use Rattle.std.specs.Prelude.{◌≡◌, ◌+◌, ◌≤◌, [], ◌++◌, length};
 ghost use Rattle.heap.specs.Faults.{report};
-ghost use Rattle.answers.specs.Shown.{answer_line};
+ghost use Rattle.answers.specs.Shown.{answer_line, shown};
 
 use crate::shown::{Shown, WIDTH};
 use heap::Fault;
@@ -10,7 +10,7 @@ use layout::column;
 impl Shown {
     // The bytes to be printed.
     pub fn text(&self) -> &[u8]
-        ensures bytes { result.now ≡ self.now }
+        ensures bytes { result.now ≡ shown self.now }
         ensures few { length result.now ≤ 70 }
     {
         &self.bytes[0..self.count]
@@ -18,7 +18,8 @@ impl Shown {
 
     // A line without a byte.
     pub(crate) fn empty() -> Shown
-        ensures { result ≡ [] }
+        ensures text { shown result ≡ [] }
+        ensures count { result.count ≡ 0 }
     {
         Shown {
             bytes: [0; WIDTH],
@@ -28,8 +29,9 @@ impl Shown {
 
     // One piece more, for which there is room.
     pub(crate) fn add(&mut self, part: &[u8])
-        requires { length self.old + length part.now ≤ 70 }
-        ensures { self.new ≡ self.old ++ part.now }
+        requires { self.old.count + length part.now ≤ 70 }
+        ensures text { shown self.new ≡ shown self.old ++ part.now }
+        ensures count { self.new.count ≡ self.old.count + length part.now }
     {
         let end = self.count + part.len();
         self.bytes[self.count..end].copy_from_slice(part);
@@ -39,7 +41,7 @@ impl Shown {
 
 // Two columns: a number and a place.
 pub fn answer(number: u16, place: usize) -> Shown
-    ensures { result ≡ answer_line number place }
+    ensures { shown result ≡ answer_line number place }
 {
     let mut line = Shown::empty();
     line.add(&column(number));
@@ -50,7 +52,7 @@ pub fn answer(number: u16, place: usize) -> Shown
 
 // The line of a refusal: its number and its place.
 pub fn refusal(fault: &Fault) -> Shown
-    ensures { result ≡ answer_line (report fault.now).number (report fault.now).place }
+    ensures { shown result ≡ answer_line (report fault.now).number (report fault.now).place }
 {
     answer(fault.number(), fault.place)
 }

@@ -2,6 +2,7 @@
 ghost use Rattle.std.specs.Prelude.{◌≡◌, ◌+◌, ◌≤◌, ◌++◌, length};
 ghost use Rattle.layout.specs.Columns.{column_of};
 ghost use Rattle.sheet.specs.Reading.{reading};
+ghost use Rattle.answers.specs.Shown.{shown};
 ghost use Rattle.answers.specs.Summaries.{summary_line, line_for, count_row, count_rows};
 
 use crate::lines::refusal;
@@ -37,8 +38,9 @@ fn atoms_in(rows: &[Row]) -> u16
 impl Shown {
     // A word, and a number in a column behind it.
     fn add_item(&mut self, label: &[u8], n: u16)
-        requires { length self.old + length label.now + 4 ≤ 70 }
-        ensures { self.new ≡ self.old ++ (label.now ++ column_of n) }
+        requires { self.old.count + length label.now + 4 ≤ 70 }
+        ensures text { shown self.new ≡ shown self.old ++ (label.now ++ column_of n) }
+        ensures count { self.new.count ≡ self.old.count + (length label.now + 4) }
     {
         self.add(label);
         self.add(&column(n));
@@ -47,7 +49,7 @@ impl Shown {
 
 // The routine's number, its variables, arguments and ghosts, its rows and its atoms.
 pub fn summary(sheet: &Sheet) -> Shown
-    ensures { result ≡ summary_line sheet.now }
+    ensures { shown result ≡ summary_line sheet.now }
 {
     let head = sheet.head();
     let rows = sheet.rows();
@@ -66,7 +68,7 @@ pub fn summary(sheet: &Sheet) -> Shown
 
 // The line for a text: what was read, or the number and place of what is wrong with it.
 pub fn line_for(text: &[u8]) -> Shown
-    ensures { result ≡ line_for (reading text.now) }
+    ensures { shown result ≡ line_for (reading text.now) }
 {
     let mut sheet = Sheet::new();
     match sheet.read(text) {

@@ -1,7 +1,8 @@
 // The lines of a whole text.
-ghost use Rattle.std.specs.Prelude.{◌≡◌, ◌≤◌, length, Ok, Err, MatchResult};
-ghost use Rattle.heap.specs.Faults.{report};
+ghost use Rattle.std.specs.Prelude.{◌≡◌, ◌≤◌, length, Ok, Err, Some, None, MatchResult};
+ghost use Rattle.heap.specs.Faults.{plain, report};
 ghost use Rattle.layout.specs.Laws.{TextOf, Refused};
+ghost use Rattle.layout.specs.Lines.{numbers_in};
 ghost use Rattle.layout.specs.Texts.{lines_of};
 
 use crate::lines::{LINE, Numbers, parse};
@@ -19,6 +20,13 @@ impl Scanned {
     }
 }
 
+// The numbers of the line that has this place; 102 if its layout is broken.
+fn numbers_of(bytes: &[u8; LINE], place: usize) -> Result<Numbers, Fault>
+    ensures { MatchResult result (λ n. numbers_in bytes.now ≡ Some n) (λ f. (numbers_in bytes.now ≡ None) × (report f ≡ plain 102 place)) }
+{
+    parse(bytes).ok_or(Fault::at(Problem::Layout, place))
+}
+
 // Reads every line of a text: 101 for its length, else 102 at the first line whose layout is broken.
 pub fn scan(text: &[u8]) -> Result<Scanned, Fault>
     ensures defined { MatchResult result (λ s. lines_of text.now ≡ Ok s) (λ f. lines_of text.now ≡ Err (report f)) }
@@ -30,7 +38,7 @@ pub fn scan(text: &[u8]) -> Result<Scanned, Fault>
     let (whole, _) = text.as_chunks::<LINE>();
     let mut lines = ArrayVec::new();
     for (k, bytes) in whole.iter().enumerate() {
-        lines.push(parse(bytes).ok_or(Fault::at(Problem::Layout, k + 1))?);
+        lines.push(numbers_of(bytes, k + 1)?);
     }
     Ok(Scanned { lines })
 }

@@ -1,11 +1,10 @@
 -- What lies in a sheet is the routine that was laid there, and back.
-use Rattle.std.proofs.Common.{◌≡◌, ℕ, ◌+◌, ◌-◌, ◌<◌, suc, List, [], ◌∷◌, ◌++◌, map, length, take, replicate, set, sym, refl, ap, ◌∙◌, subst, arith, false}
+use Rattle.std.proofs.Common.{◌≡◌, ℕ, ◌+◌, ◌-◌, ◌<◌, suc, List, [], ◌∷◌, ◌++◌, map, length, replicate, set, sym, refl, ap, ◌∙◌, subst, arith, false}
 use Rattle.std.proofs.lemmas.List.{take_at, set_at, append_assoc, length_push, map_push}
 use Rattle.heap.specs.declared.atoms.Atom.{Atom}
 use Rattle.heap.specs.declared.atoms.Atom.TheVariants.{Eq}
 use Rattle.sheet.specs.declared.rows.AtomList.{AtomList}
 use Rattle.sheet.specs.declared.rows.Row.{Row}
-use Rattle.sheet.specs.declared.rows.Row.TheVariants as row
 use Rattle.sheet.specs.declared.sheets.Body.{Body}
 use Rattle.sheet.specs.Routines.{Command, assign, load, store, new, free, jump, branch, cut, call, done, Routine}
 use Rattle.sheet.specs.Laid.{filled, laid_list, laid_row, laid, list_in, command_in, routine_in}
@@ -113,3 +112,7 @@ rows_less (x ∷ xs) r e = let b = rows_less xs r cc in (cc, b.1)
 -- a body lies where its lists and its rows do
 pub body_lies : (b : Body) → b.before ≡ laid_list (list_in b.before) → b.after ≡ laid_list (list_in b.after) → b.rows.items ≡ map laid_row (map command_in b.rows.items) → b ≡ laid (routine_in b)
 body_lies b e f g = rw (sym e, sym f, sym g) refl
+
+-- the rows that lie in a sheet are its routine's, laid
+pub rows_laid : (b : Body) → b ≡ laid (routine_in b) → b.rows.items ≡ map laid_row (routine_in b).rows
+rows_laid b e = ap (λ x. x.rows.items) e

@@ -74,6 +74,7 @@ impl Sheet {
     }
 
     // The rows in their order.
+    #[tactic(auto, using(crate::proofs::LaidBack::rows_laid))]
     pub fn rows(&self) -> &[Row]
         ensures rows { result.now ≡ map laid_row self.now.rows }
         ensures few { length result.now ≤ 40 }

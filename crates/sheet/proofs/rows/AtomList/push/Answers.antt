@@ -1,7 +1,4 @@
 -- One atom more in a filled list.
-use Rattle.std.proofs.Common.{◌∷◌, ◌++◌, [], length, ap, sym, ◌∙◌, arith}
-use Rattle.std.proofs.lemmas.List.{length_push}
-use Rattle.sheet.specs.Laid.{list_in}
 use Rattle.sheet.proofs.LaidBack.{pushed_laid}
 use Rattle.sheet.proofs.rows.AtomList.push.Goals as goal
 
